@@ -297,6 +297,96 @@ def silent_connections(program):
             reader.send(packet(0x40, (nth + 1).to_bytes(2, "big")))
 
 
+def late_connects(program):
+    """A connection without CONNECT is closed in time, also after a time without any connection."""
+    with Broker(program, "--connect-within", "1") as broker, contextlib.ExitStack() as stack:
+        early = stack.enter_context(Client(broker, "early"))
+        time.sleep(2)
+        start = time.monotonic()
+        silent, half, late = [stack.enter_context(Client(broker)) for _ in range(3)]
+        half.send(connect("half")[:5])
+        time.sleep(0.5)
+        late.send(connect("late"))
+        late.expect(0x20)
+        assert silent.is_closed() and half.is_closed()
+        passed = time.monotonic() - start
+        assert 0.8 < passed < 5, f"closed after {passed:.1f} s"
+        early.ping()
+        late.ping()
+        line = r'closed address=127\.0\.0\.1:\d+ code=C12 reason="no CONNECT in time"'
+        assert sum(bool(re.fullmatch(line, it)) for it in broker.lines()) == 2, broker.lines()
+
+
+def await_line(broker, line):
+    """Waits until the log has this line."""
+    for _ in range(200):
+        if line in broker.lines():
+            return
+        time.sleep(0.02)
+    raise AssertionError(f"the log has no line {line}: {broker.lines()}")
+
+
+def await_missed(broker, client, count):
+    """Waits until the log has lines with this number of missed messages."""
+    for _ in range(200):
+        lines = [it for it in broker.lines() if it.startswith(f"missed client={client} messages=")]
+        if sum(int(it.rpartition("=")[2]) for it in lines) == count:
+            return
+        time.sleep(0.02)
+    raise AssertionError(f"{client} missed other than {count} messages: {lines}")
+
+
+def missed_messages(program):
+    """The log has one line for the messages that a client missed in a second, also at its end."""
+    with Broker(program, "--capacity", "1") as broker, contextlib.ExitStack() as stack:
+        away = stack.enter_context(Client(broker, "away", clean=False))
+        away.subscribe("t", 1)
+        away.send(DISCONNECT)
+        publisher = stack.enter_context(Client(broker, "p"))
+        for count in (1, 300, 200):
+            for nth in range(count + (count == 1)):
+                publisher.send(publish("t", b"x", 1, nth + 1))
+                publisher.expect(0x40)
+            if count < 300:
+                time.sleep(1.2)
+        # The session ends before the log has its last line, which then has its number.
+        publisher.send(publish("t", b"x", 1, 1))
+        publisher.expect(0x40)
+        Client(broker, "away").socket.close()
+        ended = "session-ended client=away"
+        await_line(broker, ended)
+        time.sleep(1.2)
+        lines = [it for it in broker.lines() if it.startswith("missed")]
+        numbers = [re.fullmatch(r"missed client=(away|#\d+) messages=(\d+)", it) for it in lines]
+        assert all(numbers), lines
+        assert numbers[0][0] == "missed client=away messages=1", lines
+        assert sum(int(it[2]) for it in numbers) == 502 and len(lines) <= 6, lines
+
+
+def full_session(program):
+    """A full session misses messages, or closes the publisher with `--when-full close`."""
+    for words, taken in (([], 5), (["--when-full", "drop"], 5), (["--when-full", "close"], 3)):
+        with Broker(program, "--capacity", "3", *words) as broker, contextlib.ExitStack() as stack:
+            away = stack.enter_context(Client(broker, "away", clean=False))
+            away.subscribe("t", 1)
+            away.send(DISCONNECT)
+            assert away.is_closed()
+            publisher = stack.enter_context(Client(broker, "p"))
+            for nth in range(1, 6):
+                publisher.send(publish("t", b"%d" % nth, 1, nth))
+            found = [publisher.packet() for _ in range(taken)]
+            assert found == [(0x40, nth.to_bytes(2, "big")) for nth in range(1, taken + 1)], found
+            if taken < 5:
+                assert publisher.is_closed()
+                await_line(broker, 'closed client=p code=C8 reason="a subscriber\'s session is full"')
+            else:
+                publisher.ping()
+                await_missed(broker, "away", 2)
+            back = stack.enter_context(Client(broker, "away", clean=False))
+            assert [back.expect(0x30)[-1:] for _ in range(3)] == [b"1", b"2", b"3"]
+            back.ping()
+
+
 def endless_publisher(program):
     """Publishers that never stop do not keep others waiting."""
     with Broker(program, "--quiet") as broker, contextlib.ExitStack() as stack:
@@ -334,7 +424,7 @@ def arguments(program):
         ran = subprocess.run([program, "broker", "--listen", f"127.0.0.1:{broker.port}"], capture_output=True, timeout=LIMIT, check=False)
         assert (ran.returncode, ran.stdout) == (1, b""), ran
         assert b"address is in use" in ran.stderr, ran
-    for words in (["--listen", "localhost"], ["--capacity", "0"], ["--max-packet", "268435456"], ["--max-packet", "63"], ["--log", "/nowhere/log"]):
+    for words in (["--listen", "localhost"], ["--capacity", "0"], ["--max-packet", "268435456"], ["--max-packet", "63"], ["--log", "/nowhere/log"], ["--connect-within", "0"], ["--connect-within", "soon"], ["--when-full", "wait"]):
         ran = subprocess.run([program, "broker", *words], capture_output=True, timeout=LIMIT, check=False)
         assert (ran.returncode, ran.stdout) == (2, b""), ran
     with contextlib.suppress(OSError), socket.create_server(("::1", 0), family=socket.AF_INET6) as free:
@@ -349,31 +439,54 @@ def arguments(program):
             process.stdout.close()
 
 
+def log_in(broker, name, password):
+    """The return code of the CONNACK for a login."""
+    with Client(broker) as client:
+        flags = 2 | (0xC0 if name else 0)
+        body = text("MQTT") + bytes([4, flags, 0, 0]) + text("c")
+        client.send(packet(0x10, body + (text(name) + text(password) if name else b"")))
+        return client.expect(0x20)[1]
+
+
+def password_line(program, name, password):
+    """The line that `mqtt password` prints."""
+    ran = subprocess.run([program, "password", name], input=password, capture_output=True, timeout=LIMIT, check=True)
+    assert ran.stderr == b"", ran
+    return ran.stdout
+
+
 def passwords(program):
-    """Only the users of the file may connect."""
+    """Only the users of the file may connect, with plain passwords or with digests of them."""
+    hashed = [password_line(program, "bob", it) for it in (b"other\n", b"other\r\n", b"other")]
+    assert all(re.fullmatch(rb"bob:sha256:[0-9a-f]{32}:[0-9a-f]{64}\n", it) for it in hashed), hashed
+    assert len(set(hashed)) == 3 and b"other" not in b"".join(hashed)
     with tempfile.NamedTemporaryFile() as file:
-        file.write(b"alice:secret\nbob:other\n")
-        file.flush()
-        with Broker(program, "--passwords", file.name) as broker:
-            for name, password, code in (("alice", "secret", 0), ("alice", "other", 4), ("carol", "secret", 4), (None, None, 4)):
-                with Client(broker) as client:
-                    flags = 2 | (0xC0 if name else 0)
-                    body = text("MQTT") + bytes([4, flags, 0, 0]) + text("c")
-                    client.send(packet(0x10, body + (text(name) + text(password) if name else b"")))
-                    answer = client.expect(0x20)
-                    assert answer[0] == 0 and (answer[1] == 0) == (code == 0), (name, password, answer)
-            for _ in range(100):
-                refused = [it for it in broker.lines() if it.startswith("refused")]
-                if len(refused) == 3:
-                    break
-                time.sleep(0.05)
-            assert len(refused) == 3, refused
-        file.seek(0)
-        file.truncate()
-        file.write(b"no colon\n")
-        file.flush()
-        ran = subprocess.run([program, "broker", "--passwords", file.name], capture_output=True, timeout=LIMIT, check=False)
-        assert (ran.returncode, ran.stdout) == (2, b"") and b"line 1" in ran.stderr, ran
+        for lines in (b"alice:secret\nbob:other\n", *(b"alice:secret\n" + it for it in hashed)):
+            file.seek(0)
+            file.truncate()
+            file.write(b"# users\n\n" + lines)
+            file.flush()
+            with Broker(program, "--passwords", file.name) as broker:
+                logins = [("alice", "secret", 0), ("bob", "other", 0), ("alice", "other", 4), ("bob", "secret", 4), ("carol", "secret", 4), ("bob", "", 4), (None, None, 5)]
+                for name, password, code in logins:
+                    found = log_in(broker, name, password)
+                    assert found == code, (lines, name, password, found)
+                for _ in range(100):
+                    refused = [it for it in broker.lines() if it.startswith("refused")]
+                    if len(refused) == 5:
+                        break
+                    time.sleep(0.05)
+                assert len(refused) == 5, refused
+        for lines, reason in ((b"a:b\nno colon\n", b"line 2: no colon"), (b"a:sha256:salt:00", b"line 1: a salt"), (b"a:\xff", b"not UTF-8")):
+            file.seek(0)
+            file.truncate()
+            file.write(lines)
+            file.flush()
+            ran = subprocess.run([program, "broker", "--passwords", file.name], capture_output=True, timeout=LIMIT, check=False)
+            assert (ran.returncode, ran.stdout) == (2, b"") and file.name.encode() in ran.stderr and reason in ran.stderr, ran
+    for name, password in (("a:b", b"x"), ("#a", b"x"), ("", b"x"), ("a", 65_536 * b"x")):
+        ran = subprocess.run([program, "password", name], input=password, capture_output=True, timeout=LIMIT, check=False)
+        assert (ran.returncode, ran.stdout) == (2, b"") and ran.stderr.startswith(b"mqtt: the "), ran
 
 
 def ask(port, request):
@@ -386,6 +499,14 @@ def ask(port, request):
             if not data:
                 return response
             response += data
+
+
+def metric(port, name):
+    """The value of a metric."""
+    body = ask(port, b"GET /metrics HTTP/1.1\r\nHost: x\r\n\r\n").decode()
+    found = re.search(rf"(?m)^{re.escape(name)} (.*)$", body)
+    assert found, f"no metric {name}"
+    return found[1]
 
 
 def metrics(program):
@@ -401,8 +522,7 @@ def metrics(program):
             head, _, body = ask(port, method + b" /metrics HTTP/1.1\r\nHost: x\r\n\r\n").partition(b"\r\n\r\n")
             assert head.startswith(b"HTTP/1.1 200 OK\r\n"), head
             assert len(body) >= size and (size or not body), body
-            if body:
-                assert re.search(rb'(?m)^mqtt\w*messages\w*in\w*\{qos="0"\} 3$', body), body
+        assert metric(port, 'mqtt_messages_in_total{qos="0"}') == "3"
         assert b"<title>" in ask(port, b"GET / HTTP/1.1\r\nHost: x\r\n\r\n")
         assert ask(port, b"POST / HTTP/1.1\r\n\r\n").startswith(b"HTTP/1.1 405 ")
         assert ask(port, b"GET /other HTTP/1.1\r\n\r\n").startswith(b"HTTP/1.1 404 ")
@@ -411,9 +531,36 @@ def metrics(program):
         client.ping()
 
 
+def rows(program):
+    """The gauges, and the page's rows: full sessions first, then those that store the most."""
+    with socket.create_server(("127.0.0.1", 0)) as free:
+        port = free.getsockname()[1]
+    words = ["--quiet", "--capacity", "4", "--metrics", f"127.0.0.1:{port}"]
+    with Broker(program, *words) as broker, contextlib.ExitStack() as stack:
+        for nth in range(24):
+            with Client(broker, f"<{nth}>", clean=False) as client:
+                for index in range(min(nth, 5)):
+                    client.subscribe(f"t{index}" if nth < 23 else f"t{index + 4}", 1)
+        publisher = stack.enter_context(Client(broker, "p"))
+        for index in range(5):
+            retained = bytearray(publish(f"t{index}", b"x", 1, index + 1))
+            retained[0] |= 1
+            publisher.send(retained)
+            publisher.expect(0x40)
+        found = {name: metric(port, f"mqtt_{name}") for name in ("connections", "sessions", "retained_messages", "stored_messages")}
+        # The sessions 0 to 22 store 0, 1, 2, 3, 4, 4 .. messages, session 23 one, and p none.
+        assert found == {"connections": "1", "sessions": "25", "retained_messages": "5", "stored_messages": "83"}, found
+        assert metric(port, 'mqtt_messages_missed_total{reason="session_full"}') == "18"
+        page = ask(port, b"GET / HTTP/1.1\r\nHost: x\r\n\r\n").decode()
+        shown = re.findall(r"<tr><td>(.*)<td>(\d+)<td>(\d+)<td>(\d+)<td>(\w+)\n", page)
+        full = [(f"&lt;{nth}&gt;", "4", "0", "1" if nth > 4 else "0", "full") for nth in range(4, 23)]
+        assert shown == full + [("&lt;3&gt;", "3", "0", "0", "away")], shown
+        publisher.ping()
+
+
 TESTS = [
     arguments, many_connections, too_many_connections, no_descriptor, silent_reader, leaving,
-    silent_connections, endless_publisher, passwords, metrics,
+    silent_connections, late_connects, missed_messages, full_session, endless_publisher, passwords, metrics, rows,
 ]
 
 

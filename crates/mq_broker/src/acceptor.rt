@@ -1,9 +1,34 @@
 //! The listener of a broker.
 
+ghost use Rattle.std.specs.Prelude.{◌≢◌, IfErr};
+ghost use Rattle.mq_broker.specs.declared.end.BrokerEnd.TheVariants.{PacketLimit};
+
+use crate::end::BrokerEnd;
 use mio::net::{TcpListener, TcpStream};
+use mio::{Interest, Poll, Token};
 use std::io;
 use std::io::ErrorKind;
-use std::net::SocketAddr;
+use std::net::{Net, SocketAddr};
+
+/// Listens at an address, with this token.
+pub(crate) fn listen_at<R: Net>(
+    rt: &R,
+    poll: &Poll,
+    address: SocketAddr,
+    token: Token,
+) -> Result<TcpListener, BrokerEnd>
+    ensures { IfErr result (λ end. end ≢ PacketLimit) }
+{
+    let mut listener = match TcpListener::bind(rt, address) {
+        Ok(listener) => listener,
+        Err(error) => return Err(BrokerEnd::of_bind(&error)),
+    };
+    let registry = poll.registry();
+    match registry.register(&mut listener, token, Interest::READABLE) {
+        Ok(()) => Ok(listener),
+        Err(error) => Err(BrokerEnd::of_wait(&error)),
+    }
+}
 
 /// The outcome of an attempt to accept a connection.
 #[derive(Drop)]

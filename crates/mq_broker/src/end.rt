@@ -1,5 +1,10 @@
 //! Reasons of a broker to end.
 
+ghost use Rattle.std.specs.Prelude.{◌≡◌, ◌≢◌};
+ghost use Rattle.mq_broker.specs.End.{end_status};
+ghost use Rattle.mq_broker.specs.declared.end.BrokerEnd.TheVariants.{PacketLimit};
+
+use mq_loop::CommitFailure;
 use std::alloc::AllocError;
 use std::io;
 use std::io::ErrorKind;
@@ -26,22 +31,32 @@ pub enum BrokerEnd {
     /// An allocation failed.
     #[error("out of memory")]
     Memory,
+    /// The journal failed. No output of the events that it lacks was sent.
+    #[error("the journal failed")]
+    Journal,
 }
 
 impl BrokerEnd {
     /// The exit status of the program: 2 for an invalid option, 3 if an allocation failed, 4 if the
     /// output failed, otherwise 1.
-    pub fn status(self) -> u8 {
+    pub fn status(self) -> u8
+        ensures { result ≡ end_status self }
+    {
         match self {
             BrokerEnd::PacketLimit => 2,
             BrokerEnd::Memory => 3,
             BrokerEnd::Output => 4,
-            BrokerEnd::AddressInUse | BrokerEnd::AddressRefused | BrokerEnd::Listener => 1,
+            BrokerEnd::AddressInUse
+            | BrokerEnd::AddressRefused
+            | BrokerEnd::Listener
+            | BrokerEnd::Journal => 1,
         }
     }
 
     /// Why an address can't be listened on.
-    pub(crate) fn of_bind(error: &io::Error) -> BrokerEnd {
+    pub(crate) fn of_bind(error: &io::Error) -> BrokerEnd
+        ensures { result ≢ PacketLimit }
+    {
         match error.kind() {
             ErrorKind::AddrInUse => BrokerEnd::AddressInUse,
             ErrorKind::OutOfMemory => BrokerEnd::Memory,
@@ -50,7 +65,9 @@ impl BrokerEnd {
     }
 
     /// Why a wait for connections failed.
-    pub(crate) fn of_wait(error: &io::Error) -> BrokerEnd {
+    pub(crate) fn of_wait(error: &io::Error) -> BrokerEnd
+        ensures { result ≢ PacketLimit }
+    {
         match error.kind() {
             ErrorKind::OutOfMemory => BrokerEnd::Memory,
             _ => BrokerEnd::Listener,
@@ -66,5 +83,19 @@ impl From<AllocError> for BrokerEnd {
 
     fn from(_e: AllocError) -> BrokerEnd {
         BrokerEnd::Memory
+    }
+}
+
+impl From<CommitFailure> for BrokerEnd {
+    ghost use Rattle.std.specs.Prelude.{◌≢◌};
+    ghost use Rattle.mq_broker.specs.declared.end.BrokerEnd.TheVariants.{PacketLimit};
+
+    ghost from_gives = { λ _ end. end ≢ PacketLimit };
+
+    fn from(failure: CommitFailure) -> BrokerEnd {
+        match failure {
+            CommitFailure::Memory => BrokerEnd::Memory,
+            CommitFailure::Storage | CommitFailure::Full => BrokerEnd::Journal,
+        }
     }
 }

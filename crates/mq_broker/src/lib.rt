@@ -10,8 +10,10 @@ mod acceptor;
 mod counted;
 mod end;
 mod log;
+mod missed;
 mod options;
 mod peers;
+mod rows;
 mod server;
 mod status_port;
 

@@ -1,5 +1,12 @@
 //! The log of a broker: one line for each occurrence.
 
+ghost use Rattle.std.specs.Prelude.{◌≡◌, ◌≢◌};
+ghost use Rattle.mq_end.specs.declared.reason.CloseReason.TheVariants as ends;
+ghost use Rattle.mq_packet.specs.declared.connack.RefusalCode.{RefusalCode};
+ghost use Rattle.mq_route.specs.declared.close.HubClose.TheVariants as closes;
+ghost use Rattle.mq_status.specs.Log.{line_text};
+ghost use Rattle.mq_broker.specs.Lines.{closed_text, refused_text};
+
 use crate::peers::{Peer, Peers};
 use mq_end::CloseReason;
 use mq_loop::Report;
@@ -82,14 +89,7 @@ impl<W: Write> Log<W> {
         if !self.has(LogLevel::Normal) {
             return;
         }
-        let place = match report {
-            Report::Connected { place, .. }
-            | Report::Closed { place, .. }
-            | Report::Slow { place }
-            | Report::Ended { place } => Some(*place),
-            Report::SessionEnded { place, .. } => *place,
-        };
-        let peer = match place {
+        let peer = match place_of(report) {
             Some(place) => peers.get(place),
             None => None,
         };
@@ -105,8 +105,7 @@ impl<W: Write> Log<W> {
 
     fn connected(&mut self, peer: &Peer) -> io::Result<()> {
         let client = client_of(self.alloc, peer)?;
-        let address = peer.address;
-        let address = format!(in self.alloc; "{address}")?;
+        let address = address_of(self.alloc, peer)?;
         let line = LogLine::Connected {
             client: client.as_str(),
             address: address.as_str(),
@@ -115,20 +114,14 @@ impl<W: Write> Log<W> {
     }
 
     fn closed(&mut self, peer: &Peer, reason: HubClose) -> io::Result<()> {
-        if peer.key.is_some() {
-            let client = client_of(self.alloc, peer)?;
-            let line = LogLine::Closed {
-                client: client.as_str(),
-                reason,
-            };
-            return write_log(&mut self.output, line);
+        let address = address_of(self.alloc, peer)?;
+        if peer.key.is_none() {
+            return write_log(&mut self.output, early_line(address.as_str(), reason));
         }
-        let address = peer.address;
-        let address = format!(in self.alloc; "{address}")?;
-        let address = address.as_str();
-        let line = match reason {
-            HubClose::Own(CloseReason::Refused(code)) => LogLine::Refused { address, code },
-            _ => LogLine::ClosedEarly { address, reason },
+        let client = client_of(self.alloc, peer)?;
+        let line = LogLine::Closed {
+            client: client.as_str(),
+            reason,
         };
         write_log(&mut self.output, line)
     }
@@ -160,9 +153,47 @@ impl<W: Write> Log<W> {
         Ok(())
     }
 
+    /// Writes how many messages a client missed.
+    pub(crate) fn missed(&mut self, client: &str, messages: u64) {
+        if self.has(LogLevel::Normal) {
+            let _ = write_log(&mut self.output, LogLine::Missed { client, messages });
+        }
+    }
+
+    /// Writes how many messages the client of a session missed that was removed.
+    pub(crate) fn missed_before_end(&mut self, key: ClientKey, messages: u64) {
+        if let Ok(client) = key_name(self.alloc, key) {
+            self.missed(client.as_str(), messages);
+        }
+    }
+
     /// Writes the lines that are buffered.
     pub(crate) fn flush(&mut self) {
         let _ = self.output.flush();
+    }
+}
+
+// The place of a report.
+fn place_of(report: &Report) -> Option<u32> {
+    match report {
+        Report::Connected { place, .. }
+        | Report::Closed { place, .. }
+        | Report::Slow { place }
+        | Report::Ended { place } => Some(*place),
+        Report::SessionEnded { place, .. } => *place,
+    }
+}
+
+// The line for a connection that is closed before a client is connected.
+fn early_line<'a>(address: &'a str, reason: HubClose) -> LogLine<'a>
+    ensures refused { (code : RefusalCode) → reason ≡ closes.Own (ends.Refused code)
+        → line_text result ≡ refused_text address.now code }
+    ensures closed { ((code : RefusalCode) → reason ≢ closes.Own (ends.Refused code))
+        → line_text result ≡ closed_text address.now reason }
+{
+    match reason {
+        HubClose::Own(CloseReason::Refused(code)) => LogLine::Refused { address, code },
+        _ => LogLine::ClosedEarly { address, reason },
     }
 }
 
@@ -175,6 +206,13 @@ fn client_of(alloc: Global, peer: &Peer) -> io::Result<String> {
     }
 }
 
+// The address of a peer as text.
+fn address_of(alloc: Global, peer: &Peer) -> io::Result<String> {
+    let address = peer.address;
+    Ok(format!(in alloc; "{address}")?)
+}
+
+// The name of a session whose client identifier is not known.
 fn key_name(alloc: Global, key: ClientKey) -> io::Result<String> {
     let number = key.get();
     Ok(format!(in alloc; "#{number}")?)

@@ -51,15 +51,9 @@ impl Peers {
         self.peers[at].as_ref()
     }
 
-    /// The client identifier of the connection at a place, if it is known.
-    pub(crate) fn client(&self, place: u32) -> Result<Option<Text>, AllocError> {
-        let Some(peer) = self.get(place) else {
-            return Ok(None);
-        };
-        match &peer.client {
-            Some(client) => Ok(Some(client.clone()?)),
-            None => Ok(None),
-        }
+    /// The session of the client that is connected at a place.
+    pub(crate) fn key(&self, place: u32) -> Option<ClientKey> {
+        self.get(place)?.key
     }
 
     /// Stores the client of the connection at a place.

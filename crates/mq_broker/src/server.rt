@@ -1,18 +1,27 @@
 //! The loop of a broker over sockets.
 
-use crate::acceptor::{Accepted, accept};
+ghost use Rattle.std.specs.Prelude.{◌≡◌, ◌≢◌, ◌↔◌, IfErr};
+ghost use Rattle.mq_broker.specs.End.{IsPacketLimit};
+ghost use Rattle.mq_broker.specs.declared.end.BrokerEnd.TheVariants.{PacketLimit};
+
+mod accepting;
+mod answering;
+mod reporting;
+
+use crate::acceptor::listen_at;
 use crate::counted::Counted;
 use crate::end::BrokerEnd;
 use crate::log::Log;
 use crate::options::BrokerOptions;
 use crate::peers::Peers;
-use crate::status_port::{FIRST, LISTENER as STATUS_LISTENER, SLOTS, StatusPort};
+use crate::status_port::StatusPort;
 use mio::net::{TcpListener, TcpStream};
-use mio::{Events, Interest, Poll, Token};
-use mq_loop::{EventLoop, LoopLimits, NonBlocking, Report};
-use mq_status::{Counter, MAX_ROWS, Metrics, RowState, SessionRow, write_response};
+use mio::{Events, Poll, Token};
+use mq_decode::Limits;
+use mq_hub::Hub;
+use mq_loop::{EventLoop, LoopLimits, NonBlocking};
 use mq_stream::{Clock, Elapsed};
-use std::alloc::{AllocError, Global};
+use std::alloc::Global;
 use std::io::Write;
 use std::net::{Net, SocketAddr};
 use std::time::{Duration, Instant};
@@ -30,9 +39,6 @@ const RETRY: u64 = 100;
 /// The maximum number of events of one wait.
 const MOST_EVENTS: usize = 16_384;
 
-/// The maximum number of connections that are accepted before a round.
-const MOST_ACCEPTS: u32 = 256;
-
 /// The token of the listener. Other tokens are places.
 const LISTENER: Token = Token(usize::MAX);
 
@@ -41,7 +47,7 @@ const LISTENER: Token = Token(usize::MAX);
 struct Server<W: Write> {
     poll: Poll,
     listener: TcpListener,
-    connections: EventLoop<NonBlocking<TcpStream>, Counted>,
+    connections: EventLoop<Hub, NonBlocking<TcpStream>, Counted>,
     status: Option<StatusPort>,
     peers: Peers,
     log: Log<W>,
@@ -50,6 +56,8 @@ struct Server<W: Write> {
     may_accept: bool,
     // The time of the last accept, in milliseconds, if it failed and must be tried again.
     failed_at: Option<u64>,
+    // The time of the last lines about missed messages, in milliseconds.
+    missed_at: Option<u64>,
 }
 
 /// Runs a broker until its listener fails. Writes `listening ADDR:PORT` to `output`.
@@ -62,75 +70,90 @@ pub fn run_broker<R: Net + time::Clock, W: Write, L: Write + Drop>(
     options: BrokerOptions,
     output: &mut W,
     log: Log<L>,
-) -> BrokerEnd {
-    let mut server = match Server::open(rt, alloc, options, log) {
-        Ok(server) => server,
-        Err(end) => return end,
+) -> BrokerEnd
+    ensures { (result ≡ PacketLimit) ↔ ¬ (IsPacketLimit options.max_packet) }
+{
+    let Some(packets) = options.packets() else {
+        return BrokerEnd::PacketLimit;
     };
-    match server.serve(rt, alloc, output) {
+    match run_within(rt, alloc, options, packets, output, log) {
         Ok(()) => BrokerEnd::Listener,
         Err(end) => end,
     }
 }
 
+// Runs a broker whose packets have these limits.
+fn run_within<R: Net + time::Clock, W: Write, L: Write + Drop>(
+    rt: &R,
+    alloc: Global,
+    options: BrokerOptions,
+    packets: Limits,
+    output: &mut W,
+    log: Log<L>,
+) -> Result<(), BrokerEnd>
+    ensures { IfErr result (λ end. end ≢ PacketLimit) }
+{
+    let mut server = Server::open(rt, alloc, options, packets, log)?;
+    server.serve(rt, alloc, output)
+}
+
+fn new_poll<R: Net>(rt: &R) -> Result<Poll, BrokerEnd>
+    ensures { IfErr result (λ end. end ≢ PacketLimit) }
+{
+    match Poll::new(rt) {
+        Ok(poll) => Ok(poll),
+        Err(error) => Err(BrokerEnd::of_wait(&error)),
+    }
+}
+
+// Writes the line of the listener.
+fn write_address<W: Write>(output: &mut W, address: SocketAddr) -> io::Result<()> {
+    writeln!(output, "listening {address}")?;
+    output.flush()
+}
+
 impl<L: Write + Drop> Server<L> {
-    // Opens the listener.
+    // Opens the listeners.
     fn open<R: Net>(
         rt: &R,
         alloc: Global,
         options: BrokerOptions,
+        packets: Limits,
         log: Log<L>,
-    ) -> Result<Server<L>, BrokerEnd> {
-        let Some(packets) = options.packets() else {
-            return Err(BrokerEnd::PacketLimit);
-        };
+    ) -> Result<Server<L>, BrokerEnd>
+        ensures { IfErr result (λ end. end ≢ PacketLimit) }
+    {
         let limits = LoopLimits {
             share: SHARE,
             most_owed: options.max_waiting,
             packets,
         };
-        let poll = match Poll::new(rt) {
-            Ok(poll) => poll,
-            Err(error) => return Err(BrokerEnd::of_wait(&error)),
-        };
-        let mut listener = match TcpListener::bind(rt, options.listen) {
-            Ok(listener) => listener,
-            Err(error) => return Err(BrokerEnd::of_bind(&error)),
-        };
-        match poll
-            .registry()
-            .register(&mut listener, LISTENER, Interest::READABLE)
-        {
-            Ok(()) => {}
-            Err(error) => return Err(BrokerEnd::of_wait(&error)),
-        }
+        let most = options.max_connections;
+        let poll = new_poll(rt)?;
+        let listener = listen_at(rt, &poll, options.listen, LISTENER)?;
         let status = match options.metrics {
             Some(address) => Some(StatusPort::open(rt, alloc, &poll, address)?),
             None => None,
         };
-        let most = options.max_connections;
         let config = options.into_config(packets);
-        let counted = Counted(Metrics::new());
         Ok(Server {
             poll,
             listener,
-            connections: EventLoop::new(alloc, config, limits, counted),
+            connections: EventLoop::new(alloc, config, limits, Counted::new(alloc)),
             status,
             peers: Peers::new(alloc),
             log,
             most,
             may_accept: true,
             failed_at: None,
+            missed_at: None,
         })
     }
 
-    // Writes the line of the listener, and makes round after round.
-    fn serve<R: time::Clock, W: Write>(
-        &mut self,
-        rt: &R,
-        alloc: Global,
-        output: &mut W,
-    ) -> Result<(), BrokerEnd> {
+    // Writes the line of the listener, to the output and to the log.
+    fn announce<W: Write>(&mut self, output: &mut W) -> Result<(), BrokerEnd>
+        ensures { IfErr result (λ end. end ≢ PacketLimit) }
+    {
         let Ok(address) = self.listener.local_addr() else {
             return Err(BrokerEnd::Listener);
         };
@@ -139,6 +162,22 @@ impl<L: Write + Drop> Server<L> {
         }
         self.log.listening(address);
         self.log.flush();
+        Ok(())
+    }
+
+    // Makes round after round.
+    //
+    // A new connection takes a free place, so the reports about the last connection of that place
+    // are written before it. It is accepted after a round, so that the broker knows the time.
+    fn serve<R: time::Clock, W: Write>(
+        &mut self,
+        rt: &R,
+        alloc: Global,
+        output: &mut W,
+    ) -> Result<(), BrokerEnd>
+        ensures { IfErr result (λ end. end ≢ PacketLimit) }
+    {
+        self.announce(output)?;
         let Ok(start) = Instant::now(rt) else {
             return Err(BrokerEnd::Listener);
         };
@@ -150,18 +189,21 @@ impl<L: Write + Drop> Server<L> {
         for _ in 0..u64::MAX {
             self.wait(&mut events, now)?;
             now = clock.now();
-            self.accept_all(now)?;
             let began = Instant::now(rt);
-            self.connections.round(now, buffer.as_mut_slice());
+            let settled = self.connections.round(now, buffer.as_mut_slice());
             self.count_round(rt, began);
-            self.take_reports();
+            self.take_reports(now);
+            settled?;
+            self.accept_all(now)?;
             self.answer_requests(alloc, &events);
         }
         Ok(())
     }
 
     // Waits until a connection is ready, or until the broker needs a tick.
-    fn wait(&mut self, events: &mut Events<Global>, now: u64) -> Result<(), BrokerEnd> {
+    fn wait(&mut self, events: &mut Events<Global>, now: u64) -> Result<(), BrokerEnd>
+        ensures { IfErr result (λ end. end ≢ PacketLimit) }
+    {
         let limit = self.limit(now);
         if let Err(error) = self.poll.poll(events, limit) {
             return Err(BrokerEnd::of_wait(&error));
@@ -190,68 +232,7 @@ impl<L: Write + Drop> Server<L> {
             return;
         };
         let time = u64::try_from(time.as_micros()).unwrap_or(u64::MAX);
-        self.connections.observer_mut().0.count_round(time);
-    }
-
-    // Serves the metrics to those that ask for them.
-    fn answer_requests(&mut self, alloc: Global, events: &Events<Global>) {
-        for event in events.iter() {
-            let Token(token) = event.token();
-            if event.token() == STATUS_LISTENER {
-                if let Some(status) = &mut self.status {
-                    status.accept_all(&self.poll);
-                }
-            } else if token >= FIRST && token - FIRST < SLOTS {
-                self.answer(alloc, token - FIRST);
-            }
-        }
-    }
-
-    fn answer(&mut self, alloc: Global, slot: usize) {
-        let Some(status) = &mut self.status else {
-            return;
-        };
-        let Some(reply) = status.continue_at(slot) else {
-            return;
-        };
-        let Ok(rows) = self.set_gauges(alloc) else {
-            return;
-        };
-        let mut response = Vec::new(alloc);
-        let metrics = &self.connections.observer().0;
-        if write_response(alloc, &mut response, reply, metrics, rows.as_slice()).is_err() {
-            return;
-        }
-        if let Some(status) = &mut self.status {
-            status.respond(slot, response);
-        }
-    }
-
-    // Measures the gauges. Returns the rows of the connections with the most bytes pending.
-    fn set_gauges(&mut self, alloc: Global) -> Result<Vec<SessionRow>, AllocError> {
-        let mut gauges = self.connections.observer().0.gauges();
-        gauges.connections = self.connections.len() as u64;
-        gauges.sessions = self.connections.hub().sessions()?.len() as u64;
-        gauges.pending_bytes = 0;
-        let mut rows = Vec::new(alloc);
-        for place in 0..self.connections.places() {
-            let pending = self.connections.pending(place) as u64;
-            gauges.pending_bytes = gauges.pending_bytes.saturating_add(pending);
-            if pending > 0 && rows.len() < MAX_ROWS {
-                if let Some(client) = self.peers.client(place)? {
-                    rows.push(SessionRow {
-                        client,
-                        stored_messages: 0,
-                        stored_bytes: 0,
-                        pending_bytes: pending,
-                        missed: 0,
-                        state: RowState::Slow,
-                    })?;
-                }
-            }
-        }
-        self.connections.observer_mut().0.set_gauges(gauges);
-        Ok(rows)
+        self.connections.observer_mut().metrics.count_round(time);
     }
 
     // The maximum time to wait. `None` if there is no limit.
@@ -260,123 +241,22 @@ impl<L: Write + Drop> Server<L> {
             return Some(Duration::from_millis(0));
         }
         let deadline = self.connections.hub().next_deadline();
-        let mut limit = match deadline {
-            Some(deadline) => Some(deadline.saturating_sub(now).max(RETRY)),
-            None => None,
-        };
+        let mut limit = rest_until(deadline, now).unwrap_or(u64::MAX);
         if self.failed_at.is_some() {
-            limit = Some(RETRY);
+            limit = RETRY;
         }
-        match limit {
-            Some(limit) => Some(Duration::from_millis(limit)),
-            None => None,
+        if let Some(due) = self.missed_due() {
+            limit = limit.min(due.saturating_sub(now));
         }
-    }
-
-    // Accepts the connections that are pending, up to a number.
-    fn accept_all(&mut self, now: u64) -> Result<(), BrokerEnd> {
-        let is_retry = match self.failed_at {
-            Some(failed_at) => now >= failed_at.saturating_add(RETRY),
-            None => false,
-        };
-        if !self.may_accept && !is_retry {
-            return Ok(());
+        if limit == u64::MAX {
+            return None;
         }
-        self.may_accept = true;
-        for _ in 0..MOST_ACCEPTS {
-            match accept(&self.listener) {
-                Accepted::Stream(stream, address) => {
-                    self.failed_at = None;
-                    self.open_connection(stream, address);
-                }
-                Accepted::Nothing => {
-                    self.may_accept = false;
-                    self.failed_at = None;
-                    return Ok(());
-                }
-                Accepted::NotNow(error) => {
-                    self.may_accept = false;
-                    if self.failed_at.is_none() {
-                        self.log.not_accepting(&error);
-                    }
-                    self.failed_at = Some(now);
-                    return Ok(());
-                }
-                Accepted::Dead => return Err(BrokerEnd::Listener),
-            }
-        }
-        Ok(())
-    }
-
-    // Serves a connection, or drops it if there are too many or an allocation fails.
-    fn open_connection(&mut self, stream: TcpStream, address: SocketAddr) {
-        if self.connections.len() >= self.most {
-            let metrics = &mut self.connections.observer_mut().0;
-            metrics.add(Counter::TurnedAway, 1);
-            self.log.turned_away(address);
-            return;
-        }
-        let mut stream = stream;
-        let _ = stream.set_nodelay(true);
-        let Ok(place) = self.connections.vacant_place() else {
-            return;
-        };
-        if self.peers.insert(place, address).is_err() {
-            return;
-        }
-        let interests = Interest::READABLE | Interest::WRITABLE;
-        let token = Token(place as usize);
-        if self
-            .poll
-            .registry()
-            .register(&mut stream, token, interests)
-            .is_err()
-        {
-            return;
-        }
-        if self.connections.open(place, NonBlocking(stream)) {
-            self.log.opened(address);
-        }
-    }
-
-    // Writes the reports of a round to the log.
-    fn take_reports(&mut self) {
-        let reports = self.connections.take_reports();
-        if reports.is_empty() {
-            return;
-        }
-        for report in reports {
-            if let Report::Connected {
-                place,
-                key,
-                client,
-                ..
-            } = &report
-            {
-                let client = match client {
-                    Some(client) => client.clone().ok(),
-                    None => None,
-                };
-                self.peers.set_client(*place, *key, client);
-            }
-            let pending = match &report {
-                Report::Slow { place } => self.connections.pending(*place),
-                _ => 0,
-            };
-            self.log.report(&report, &self.peers, pending);
-            if let Report::Ended { place } = &report {
-                self.peers.remove(*place);
-                if self.failed_at.is_some() {
-                    self.may_accept = true;
-                }
-            }
-        }
-        self.log.flush();
+        Some(Duration::from_millis(limit))
     }
 }
 
-// Writes the line of the listener.
-fn write_address<W: Write>(output: &mut W, address: SocketAddr) -> io::Result<()> {
-    writeln!(output, "listening {address}")?;
-    output.flush()
+// The time until a deadline, but at least that between two ticks, in milliseconds.
+fn rest_until(deadline: Option<u64>, now: u64) -> Option<u64> {
+    let deadline = deadline?;
+    Some(deadline.saturating_sub(now).max(RETRY))
 }

@@ -1,7 +1,9 @@
 //! The port on which the broker serves its metrics over HTTP.
 
-ghost use Rattle.std.specs.Prelude.{◌≤◌, length};
+ghost use Rattle.std.specs.Prelude.{◌≢◌, ◌≤◌, length, IfErr};
+ghost use Rattle.mq_broker.specs.declared.end.BrokerEnd.TheVariants.{PacketLimit};
 
+use crate::acceptor::listen_at;
 use crate::end::BrokerEnd;
 use mio::net::{TcpListener, TcpStream};
 use mio::{Interest, Poll, Token};
@@ -47,18 +49,10 @@ impl StatusPort {
         alloc: Global,
         poll: &Poll,
         address: SocketAddr,
-    ) -> Result<StatusPort, BrokerEnd> {
-        let mut listener = match TcpListener::bind(rt, address) {
-            Ok(listener) => listener,
-            Err(error) => return Err(BrokerEnd::of_bind(&error)),
-        };
-        match poll
-            .registry()
-            .register(&mut listener, LISTENER, Interest::READABLE)
-        {
-            Ok(()) => {}
-            Err(error) => return Err(BrokerEnd::of_wait(&error)),
-        }
+    ) -> Result<StatusPort, BrokerEnd>
+        ensures { IfErr result (λ end. end ≢ PacketLimit) }
+    {
+        let listener = listen_at(rt, poll, address, LISTENER)?;
         let mut askers = Vec::with_capacity(alloc, SLOTS)?;
         for _ in 0..SLOTS {
             if askers.push(None).is_err() {
@@ -151,47 +145,68 @@ impl StatusPort {
 impl Asker {
     // Reads the request.
     fn hear(&mut self) -> Answer {
-        let mut buffer = [0u8; 1_024];
         for _ in 0..READS {
-            match self.stream.read(&mut buffer) {
-                Ok(0) => return Answer::Close,
-                Ok(count) => {
-                    if self.received.extend_from_slice(&buffer[..count]).is_err() {
-                        return Answer::Close;
-                    }
-                    match request(self.received.as_slice()) {
-                        Answer::Pending => {}
-                        answer => return answer,
-                    }
-                }
-                Err(error) => match error.kind() {
-                    ErrorKind::Interrupted => {}
-                    ErrorKind::WouldBlock => return Answer::Pending,
-                    _ => return Answer::Close,
-                },
+            if let Some(answer) = self.hear_once() {
+                return answer;
             }
         }
         Answer::Close
     }
 
+    // Reads once. Returns `None` if more may be read at once.
+    fn hear_once(&mut self) -> Option<Answer> {
+        let mut buffer = [0u8; 1_024];
+        match self.stream.read(&mut buffer) {
+            Ok(0) => Some(Answer::Close),
+            Ok(count) => self.take(&buffer[..count]),
+            Err(error) => answer_to(error.kind()),
+        }
+    }
+
+    // Adds bytes to the request. Returns `None` if it is not complete yet.
+    fn take(&mut self, bytes: &[u8]) -> Option<Answer> {
+        if self.received.extend_from_slice(bytes).is_err() {
+            return Some(Answer::Close);
+        }
+        match request(self.received.as_slice()) {
+            Answer::Pending => None,
+            answer => Some(answer),
+        }
+    }
+
     // Writes the response. Returns `Close` at its end, or if the connection failed.
     fn send(&mut self) -> Answer {
         for _ in 0..u64::MAX {
-            let sent = self.sent.min(self.response.len());
-            let (_, rest) = self.response.as_slice().split_at(sent);
-            if rest.is_empty() {
-                return Answer::Close;
-            }
-            match self.stream.write(rest) {
-                Ok(0) => return Answer::Close,
-                Ok(count) => self.sent = sent.saturating_add(count),
-                Err(error) => match error.kind() {
-                    ErrorKind::Interrupted => {}
-                    ErrorKind::WouldBlock => return Answer::Pending,
-                    _ => return Answer::Close,
-                },
+            if let Some(answer) = self.send_once() {
+                return answer;
             }
         }
         Answer::Close
+    }
+
+    // Writes once. Returns `None` if more may be written at once.
+    fn send_once(&mut self) -> Option<Answer> {
+        let sent = self.sent.min(self.response.len());
+        let (_, rest) = self.response.as_slice().split_at(sent);
+        if rest.is_empty() {
+            return Some(Answer::Close);
+        }
+        match self.stream.write(rest) {
+            Ok(0) => Some(Answer::Close),
+            Ok(count) => {
+                self.sent = sent.saturating_add(count);
+                None
+            }
+            Err(error) => answer_to(error.kind()),
+        }
+    }
+}
+
+// The answer to an error of a socket. `None` if the call is to be made again.
+fn answer_to(kind: ErrorKind) -> Option<Answer> {
+    match kind {
+        ErrorKind::Interrupted => None,
+        ErrorKind::WouldBlock => Some(Answer::Pending),
+        _ => Some(Answer::Close),
     }
 }

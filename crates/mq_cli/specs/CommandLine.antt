@@ -11,6 +11,8 @@ use Rattle.mq_cli.specs.declared.jobs.Source.TheVariants.{File, Standard}
 use Rattle.mq_cli.specs.declared.jobs.Command.{Command}
 use Rattle.mq_cli.specs.declared.jobs.Command.TheVariants as commands
 use Rattle.mq_cli.specs.declared.broker.Broker.{Broker}
+use Rattle.mq_cli.specs.declared.broker.OnFull.{OnFull}
+use Rattle.mq_cli.specs.declared.broker.OnFull.TheVariants as choices
 use Rattle.mq_cli.specs.declared.jobs.Serve.{Serve}
 use Rattle.mq_cli.specs.declared.jobs.Publish.{Publish}
 use Rattle.mq_cli.specs.declared.jobs.Collect.{Collect}
@@ -117,6 +119,29 @@ abbrev pub IsLimit : Option (Text × List Row) → Text → ℕ → ℕ → Type
 IsLimit command word default n =
     GivesNumber command (codes "broker") word n ⊎ (HasWord command (codes "broker") word None × (n ≡ default))
 
+-- a word is `never`, or a number of seconds that is not 0
+abbrev pub IsTime : Text → Option ℕ → Type 0
+IsTime word None = word ≡ codes "never"
+IsTime word (Some seconds) =
+    IsNumeral 10 (without_leading_plus word) × (digits_value 10 (without_leading_plus word) ≡ seconds) × (1 ≤ seconds)
+
+-- the time within which a connection must send CONNECT, or 10 seconds if it was not given
+abbrev pub IsPatience : Option (Text × List Row) → Option ℕ → Type 0
+IsPatience command time =
+    ((word : Text) × GivesWord command (codes "broker") (codes "CONNECT_WITHIN") word × IsTime word time)
+    ⊎ (HasWord command (codes "broker") (codes "CONNECT_WITHIN") None × (time ≡ Some 10))
+
+-- the word of a choice
+abbrev pub full_word : OnFull → Text
+full_word choices.Drop = codes "drop"
+full_word choices.Close = codes "close"
+
+-- the treatment of a message for a full session, or `drop` if it was not given
+abbrev pub IsOnFull : Option (Text × List Row) → OnFull → Type 0
+IsOnFull command choice =
+    GivesWord command (codes "broker") (codes "WHEN_FULL") (full_word choice)
+    ⊎ (HasWord command (codes "broker") (codes "WHEN_FULL") None × (choice ≡ choices.Drop))
+
 -- the words of `broker`
 pub record IsBroker (command : Option (Text × List Row)) (broker : Broker) : Type 0 where
   pub listen : HasWord command (codes "broker") (codes "LISTEN") (option_map (λ text. text.now) broker.listen)
@@ -125,6 +150,8 @@ pub record IsBroker (command : Option (Text × List Row)) (broker : Broker) : Ty
   pub max_packet : IsLimit command (codes "MAX_PACKET") 1048576 broker.max_packet
   pub capacity : IsLimit command (codes "CAPACITY") 1000 broker.capacity
   pub max_waiting : IsLimit command (codes "MAX_WAITING") 1048576 broker.max_waiting
+  pub connect_within : IsPatience command broker.connect_within
+  pub when_full : IsOnFull command broker.when_full
   pub passwords : HasWord command (codes "broker") (codes "PASSWORDS") (option_map (λ file. file.now) broker.passwords)
   pub metrics : HasWord command (codes "broker") (codes "METRICS") (option_map (λ text. text.now) broker.metrics)
   pub log : HasWord command (codes "broker") (codes "LOG") (option_map (λ file. file.now) broker.log)
@@ -141,6 +168,7 @@ abbrev pub IsCommandOf : Option (Text × List Row) → Command → Type 0
 IsCommandOf command (commands.Job job) = IsJobOf command job
 IsCommandOf command (commands.Serve serve) = IsServe command serve
 IsCommandOf command (commands.Broker broker) = IsBroker command broker
+IsCommandOf command (commands.Password name) = GivesWord command (codes "password") (codes "NAME") name.now
 IsCommandOf command (commands.Publish publish) = IsPublish command publish
 IsCommandOf command (commands.Collect collect) = IsCollect command collect
 IsCommandOf command (commands.Loopback source) = GivesSource command (codes "loopback") (codes "FILE") source

@@ -111,6 +111,10 @@ abbrev pub with_limits : App → App
 with_limits app =
     with_rule (with_rule (with_rule app (limit_rule (codes "MAX_PACKET") (codes "max-packet") (Signed (pos 64) (pos 268435455)))) (limit_rule (codes "CAPACITY") (codes "capacity") (Signed (pos 1) (pos 65535)))) (limit_rule (codes "MAX_WAITING") (codes "max-waiting") (Signed (pos 0) (pos 4294967295)))
 
+-- the time within which a connection must send CONNECT, and the treatment of full sessions
+abbrev pub with_patience : App → App
+with_patience app = with_rule (with_rule app (file_rule (codes "CONNECT_WITHIN") (codes "connect-within"))) (file_rule (codes "WHEN_FULL") (codes "when-full"))
+
 -- the file of the passwords, and the address of the metrics
 abbrev pub with_extras : App → App
 with_extras app = with_rule (with_rule app (file_rule (codes "PASSWORDS") (codes "passwords"))) (file_rule (codes "METRICS") (codes "metrics"))
@@ -122,8 +126,8 @@ with_logs app =
 
 -- `broker`, whose options can all be left out
 abbrev pub broker_words : App
-broker_words = with_logs (with_extras (with_limits (with_tables (with_rule (new_app (codes "broker")) (file_rule (codes "LISTEN") (codes "listen"))))))
+broker_words = with_logs (with_extras (with_patience (with_limits (with_tables (with_rule (new_app (codes "broker")) (file_rule (codes "LISTEN") (codes "listen")))))))
 
--- `broker`, `loopback FILE`
+-- `broker`, `password NAME`, `loopback FILE`
 abbrev pub program_words : App
-program_words = with_subcommand (with_subcommand socket_words broker_words.top) (word_words (codes "loopback") (codes "FILE")).top
+program_words = with_subcommand (with_subcommand (with_subcommand socket_words broker_words.top) (word_words (codes "password") (codes "NAME")).top) (word_words (codes "loopback") (codes "FILE")).top

@@ -1,16 +1,28 @@
 //! The command `broker`: its definition and its arguments.
 
-ghost use Rattle.std.specs.Prelude.{◌≡◌, false, IfOk, IfSome};
+ghost use Rattle.std.specs.Prelude.{◌≡◌, false, codes, IfOk, IfSome};
 ghost use Rattle.clap.specs.Words.{app_of, rule_of, subcommand_rows_of};
 ghost use Rattle.clap.specs.declared.builder.command.Command.TheViews.{out-Command};
-ghost use Rattle.mq_cli.specs.CommandLine.{IsBroker, IsLimit};
-ghost use Rattle.mq_cli.specs.Grammar.{broker_words, limit_rule, with_extras, with_limits, with_logs, with_tables};
+ghost use Rattle.mq_cli.specs.CommandLine.{IsBroker, IsLimit, IsOnFull, IsPatience, IsTime, full_word};
+ghost use Rattle.mq_cli.specs.Grammar.{broker_words, limit_rule, with_extras, with_limits, with_logs, with_patience, with_tables};
 
 use crate::grammar::{Texts, file_option, flag, new_command, with_arg};
 use crate::words::{flag_of, given_of, number_of};
 use clap::builder::ValueParser;
 use clap::{Arg, ArgMatches, Command, value_parser};
 use std::alloc::{AllocError, Global};
+
+/// The seconds within which a connection must send CONNECT, without `--connect-within`.
+const PATIENCE: u32 = 10;
+
+/// The treatment of a message whose receiver has no packet identifier free (2.3.1).
+#[derive(Clone, Copy, Debug, PartialEq, Eq)]
+pub enum OnFull {
+    /// The receiver misses the message.
+    Drop,
+    /// The publisher's connection is closed.
+    Close,
+}
 
 /// A broker that runs until it is stopped.
 #[derive(Clone, Copy, Debug, PartialEq, Eq)]
@@ -27,6 +39,10 @@ pub struct Broker<'a> {
     pub capacity: u16,
     /// The number of bytes that may wait for a connection whose socket takes none.
     pub max_waiting: u32,
+    /// The seconds within which a connection must send CONNECT, at least 1; `None` for no limit.
+    pub connect_within: Option<u32>,
+    /// The treatment of a message whose receiver has no packet identifier free.
+    pub when_full: OnFull,
     /// The file of the user names and passwords; `None` lets anyone connect (3.1.3.4).
     pub passwords: Option<&'a str>,
     /// The address and the port of the metrics, as given.
@@ -99,12 +115,28 @@ fn with_limits<'a>(alloc: Global, command: Command<'a>) -> Result<Command<'a>, A
     )
 }
 
+// The command with the options for clients that are silent or full.
+fn with_patience<'a>(alloc: Global, command: Command<'a>) -> Result<Command<'a>, AllocError>
+    ensures words { IfOk result (λ new. app_of new ≡ with_patience (app_of command.entry)) }
+    ensures local { IfOk result (λ new. (out-Command new).has_globals ≡ (out-Command command.entry).has_globals) }
+{
+    let help = "The seconds within which a connection must send CONNECT, or `never` [default: 10]";
+    let command = with_arg(
+        command,
+        file_option(alloc, "CONNECT_WITHIN", "connect-within", help),
+    )?;
+    let help =
+        "What happens to a message for a full session: `drop`, or `close` its publisher [default: drop]";
+    with_arg(command, file_option(alloc, "WHEN_FULL", "when-full", help))
+}
+
 // The command with the options of the passwords and of the metrics.
 fn with_extras<'a>(alloc: Global, command: Command<'a>) -> Result<Command<'a>, AllocError>
     ensures words { IfOk result (λ new. app_of new ≡ with_extras (app_of command.entry)) }
     ensures local { IfOk result (λ new. (out-Command new).has_globals ≡ (out-Command command.entry).has_globals) }
 {
-    let help = "Accepts only the users of this file, one NAME:PASSWORD per line";
+    let help =
+        "Accepts only the users of this file, with lines NAME:PASSWORD or of `mqtt password`";
     let command = with_arg(command, file_option(alloc, "PASSWORDS", "passwords", help))?;
     let help = "Serves metrics over HTTP at this address and port";
     with_arg(command, file_option(alloc, "METRICS", "metrics", help))
@@ -139,6 +171,7 @@ pub(crate) fn broker_command<'a>(alloc: Global) -> Result<Command<'a>, AllocErro
     let command = with_arg(command, file_option(alloc, "LISTEN", "listen", help))?;
     let command = with_tables(alloc, command)?;
     let command = with_limits(alloc, command)?;
+    let command = with_patience(alloc, command)?;
     let command = with_extras(alloc, command)?;
     with_logs(alloc, command)
 }
@@ -165,6 +198,59 @@ fn limit_of_16_bits(matches: &ArgMatches<'_>, word: &str, default: u64) -> Optio
     u16::try_from(limit_of(matches, word, default)?).ok()
 }
 
+// The time of `--connect-within`: seconds, or `None` for `never`.
+fn time_of(text: &str) -> Option<Option<u32>>
+    ensures { IfSome result (IsTime text.now) }
+{
+    if text == "never" {
+        return Some(None);
+    }
+    let Ok(seconds) = text.parse::<u32>() else {
+        return None;
+    };
+    if seconds == 0 {
+        return None;
+    }
+    Some(Some(seconds))
+}
+
+fn patience_of(matches: &ArgMatches<'_>) -> Option<Option<u32>>
+    ensures { IfSome result (IsPatience (subcommand_rows_of matches.now)) }
+{
+    match given_of(matches, "broker", "CONNECT_WITHIN")? {
+        None => Some(Some(PATIENCE)),
+        Some(text) => time_of(text),
+    }
+}
+
+// The choice of `--when-full`.
+fn choice_of(text: &str) -> Option<OnFull>
+    ensures { IfSome result (λ choice. text.now ≡ full_word choice) }
+{
+    match text {
+        "drop" => Some(OnFull::Drop),
+        "close" => Some(OnFull::Close),
+        _ => None,
+    }
+}
+
+fn on_full_of(matches: &ArgMatches<'_>) -> Option<OnFull>
+    ensures { IfSome result (IsOnFull (subcommand_rows_of matches.now)) }
+{
+    match given_of(matches, "broker", "WHEN_FULL")? {
+        None => Some(OnFull::Drop),
+        Some(text) => choice_of(text),
+    }
+}
+
+/// The error for arguments of `broker` that the parser accepts although they are not valid.
+pub(crate) fn broker_complaint(matches: &ArgMatches<'_>) -> &'static str {
+    match patience_of(matches) {
+        None => "--connect-within wants seconds, from 1 to 4294967295, or never",
+        Some(_) => "--when-full wants drop or close",
+    }
+}
+
 /// The arguments of `broker`, if this command was given.
 pub(crate) fn broker_of<'a>(matches: &ArgMatches<'a>) -> Option<Broker<'a>>
     ensures { IfSome result (IsBroker (subcommand_rows_of matches.now)) }
@@ -176,6 +262,8 @@ pub(crate) fn broker_of<'a>(matches: &ArgMatches<'a>) -> Option<Broker<'a>>
         max_packet: limit_of_32_bits(matches, "MAX_PACKET", 1_048_576)?,
         capacity: limit_of_16_bits(matches, "CAPACITY", 1_000)?,
         max_waiting: limit_of_32_bits(matches, "MAX_WAITING", 1_048_576)?,
+        connect_within: patience_of(matches)?,
+        when_full: on_full_of(matches)?,
         passwords: given_of(matches, "broker", "PASSWORDS")?,
         metrics: given_of(matches, "broker", "METRICS")?,
         log: given_of(matches, "broker", "LOG")?,

@@ -366,6 +366,20 @@ fn collect_command<'a>(alloc: Global) -> Result<Command<'a>, AllocError>
     with_arg(command, flag(alloc, "CLEAN", "clean", clean))
 }
 
+// `password NAME`.
+fn password_command<'a>(alloc: Global) -> Result<Command<'a>, AllocError>
+    ensures words { IfOk result
+        (λ command. app_of command ≡ word_words (codes "password") (codes "NAME")) }
+    ensures local { IfOk result (λ command. (out-Command command).has_globals ≡ false) }
+{
+    let texts = Texts {
+        name: "password",
+        about: "Reads a password from standard input, and prints a line for the file of --passwords",
+        example: "Example: printf %s secret | mqtt password alice >> passwords.txt",
+    };
+    word_command(alloc, texts, "NAME", "The user name")
+}
+
 // `loopback FILE`.
 fn loopback_command<'a>(alloc: Global) -> Result<Command<'a>, AllocError>
     ensures words { IfOk result
@@ -427,6 +441,7 @@ pub(crate) fn command_line<'a>(alloc: Global) -> Result<Command<'a>, AllocError>
 {
     let line = socket_commands(alloc)?;
     let line = with_command(line, broker_command(alloc))?;
+    let line = with_command(line, password_command(alloc))?;
     with_command(line, loopback_command(alloc))
 }
 
@@ -441,6 +456,8 @@ pub(crate) fn shown_command<'a>(alloc: Global, name: &str) -> Result<Command<'a>
         "serve" => serve_command(alloc)?.bin_name("mqtt serve"),
         "publish" => publish_command(alloc)?.bin_name("mqtt publish"),
         "collect" => collect_command(alloc)?.bin_name("mqtt collect"),
+        "broker" => broker_command(alloc)?.bin_name("mqtt broker"),
+        "password" => password_command(alloc)?.bin_name("mqtt password"),
         "loopback" => loopback_command(alloc)?.bin_name("mqtt loopback"),
         _ => command_line(alloc),
     }

@@ -6,7 +6,7 @@ ghost use Rattle.mq_cli.specs.CommandLine.{GivesFlag, GivesId, GivesNumber, Give
 ghost use Rattle.mq_cli.specs.Grammar.{program_words};
 
 use crate::advice::advised;
-use crate::broker::broker_of;
+use crate::broker::{broker_complaint, broker_of};
 use crate::grammar::{command_line, shown_command};
 use crate::jobs::{Collect, Command, Draw, Job, Publish, Serve, Source};
 use clap::error::ErrorKind;
@@ -322,6 +322,13 @@ fn collect_of<'a>(matches: &ArgMatches<'a>) -> Option<Collect<'a>>
     })
 }
 
+fn password_of<'a>(matches: &ArgMatches<'a>) -> Option<&'a str>
+    ensures { IfSome result (λ name.
+        GivesWord (subcommand_rows_of matches.now) (codes "password") (codes "NAME") name.now) }
+{
+    word_of(matches, "password", "NAME")
+}
+
 fn loopback_of<'a>(matches: &ArgMatches<'a>) -> Option<Source<'a>>
     ensures { IfSome result
         (GivesSource (subcommand_rows_of matches.now) (codes "loopback") (codes "FILE")) }
@@ -345,6 +352,9 @@ fn command_of<'a>(
     if let Some(broker) = broker_of(matches) {
         return Ok(Some(Command::Broker(broker)));
     }
+    if let Some(name) = password_of(matches) {
+        return Ok(Some(Command::Password(name)));
+    }
     if let Some(collect) = collect_of(matches) {
         return Ok(Some(Command::Collect(collect)));
     }
@@ -367,6 +377,11 @@ fn complaint(matches: &ArgMatches<'_>) -> (&'static str, ErrorKind, &'static str
             "serve",
             ErrorKind::ValueValidation,
             "serve has 1 to 64 workers",
+        ),
+        Some("broker") => (
+            "broker",
+            ErrorKind::ValueValidation,
+            broker_complaint(matches),
         ),
         Some("publish") if id_of(matches, "publish").is_none() => (
             "publish",

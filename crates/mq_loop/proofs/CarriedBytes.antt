@@ -12,7 +12,7 @@ use Rattle.mq_route.specs.declared.reply.HubReply.{HubReply}
 use Rattle.mq_route.specs.Hub.{HubState}
 use Rattle.mq_route.specs.Runs.{Episode, Follows}
 use Rattle.mq_route.specs.Step.{Does, HubStep, event_refusal}
-use Rattle.mq_loop.specs.Accounts.{Account, Carries, CarriesAt, IsServed, Line, account_from, account_of, account_step, line_at, name_at, opened, served_state, unopened}
+use Rattle.mq_loop.specs.Accounts.{Account, AreCarried, Carries, CarriesAt, Line, account_from, account_of, account_step, line_at, name_at, opened, unopened}
 use Rattle.mq_loop.specs.Sockets.{Sends}
 
 -- ---- lists and options
@@ -56,10 +56,10 @@ account_last k [] e a = refl
 account_last k (x ∷ es) e a = account_last k es e (account_step k x.event x.reply a)
 
 -- a step that keeps what each place carries
-served_step : (base h g : HubState) (lines new : List (Option Line)) (event : HubEvent) (reply : HubReply) → IsServed (served_state base h lines)
+served_step : (base h g : HubState) (lines new : List (Option Line)) (event : HubEvent) (reply : HubReply) → AreCarried base h lines
     → HubStep h event reply g
     → ((p : ℕ) (a : Account) → CarriesAt a (line_at p lines) → CarriesAt (account_step (name_at p) event reply a) (line_at p new))
-    → IsServed (served_state base g new)
+    → AreCarried base g new
 served_step base h g lines new event reply s step keeps =
     let e : Episode = record { event = event; reply = reply; work = step.work } in
     record {
@@ -90,8 +90,8 @@ at_place q lines x event reply after is within own p a c = go (eqb q p) refl
         (subst (λ (l : Option Line). CarriesAt a l) (sym line) c)
 
 -- the line of one place changes, without a step
-line_served : (base h : HubState) (lines : List (Option Line)) (q : ℕ) (x : Option Line) → IsServed (served_state base h lines) → q < length lines
-    → ((a : Account) → CarriesAt a (line_at q lines) → CarriesAt a x) → IsServed (served_state base h (set lines q x))
+line_served : (base h : HubState) (lines : List (Option Line)) (q : ℕ) (x : Option Line) → AreCarried base h lines → q < length lines
+    → ((a : Account) → CarriesAt a (line_at q lines) → CarriesAt a x) → AreCarried base h (set lines q x)
 line_served base h lines q x s within own = record { made = s.made; follows = s.follows; carries = λ p. go p (eqb q p) refl }
   where
     go : (p : ℕ) (b : Bool) → eqb q p ≡ b → CarriesAt (account_of (name_at p) s.made) (line_at p (set lines q x))
@@ -106,23 +106,23 @@ line_served base h lines q x s within own = record { made = s.made; follows = s.
 
 -- ---- each call
 
-pub new_served : (h : HubState) → IsServed (served_state h h [])
+pub new_served : (h : HubState) → AreCarried h h []
 new_served h = record { made = []; follows = refl; carries = λ p. refl }
 
-pub place_served : (base h : HubState) (lines : List (Option Line)) → IsServed (served_state base h lines) → IsServed (served_state base h (lines ++ None ∷ []))
+pub place_served : (base h : HubState) (lines : List (Option Line)) → AreCarried base h lines → AreCarried base h (lines ++ None ∷ [])
 place_served base h lines s = record {
   made = s.made;
   follows = s.follows;
   carries = λ p. subst (λ (l : Option Line). CarriesAt (account_of (name_at p) s.made) l) (sym (none_more lines p)) (s.carries p);
 }
 
-pub tick_served : (base h g : HubState) (lines : List (Option Line)) (now : ℕ) (reply : HubReply) → IsServed (served_state base h lines) → HubStep h (Tick now) reply g
-    → IsServed (served_state base g lines)
+pub tick_served : (base h g : HubState) (lines : List (Option Line)) (now : ℕ) (reply : HubReply) → AreCarried base h lines → HubStep h (Tick now) reply g
+    → AreCarried base g lines
 tick_served base h g lines now reply s step = served_step base h g lines lines (Tick now) reply s step (λ p a c. c)
 
-pub open_served : (base h g : HubState) (lines : List (Option Line)) (q : ℕ) (line : Line) (reply : HubReply) → IsServed (served_state base h lines)
+pub open_served : (base h g : HubState) (lines : List (Option Line)) (q : ℕ) (line : Line) (reply : HubReply) → AreCarried base h lines
     → HubStep h (Opened (name_at q)) reply g → q < length lines → IfSome line.came (λ bytes. bytes ≡ []) → IfSome line.went (λ bytes. bytes ≡ []) → line.unread ≡ [] → line.kept ≡ []
-    → IsServed (served_state base g (set lines q (Some line)))
+    → AreCarried base g (set lines q (Some line))
 open_served base h g lines q line reply s step within came went unread kept =
     let carried : Carries opened line = record {
       is_open = refl;
@@ -132,15 +132,15 @@ open_served base h g lines q line reply s step within came went unread kept =
     served_step base h g lines (set lines q (Some line)) (Opened (name_at q)) reply s step
     (at_place q lines (Some line) (Opened (name_at q)) reply (λ a. opened) (λ p a. refl) within (λ a c. carried))
 
-pub end_served : (base h g : HubState) (lines : List (Option Line)) (q : ℕ) (reply : HubReply) → IsServed (served_state base h lines) → HubStep h (Ended (name_at q)) reply g
-    → q < length lines → IsServed (served_state base g (set lines q None))
+pub end_served : (base h g : HubState) (lines : List (Option Line)) (q : ℕ) (reply : HubReply) → AreCarried base h lines → HubStep h (Ended (name_at q)) reply g
+    → q < length lines → AreCarried base g (set lines q None)
 end_served base h g lines q reply s step within =
     served_step base h g lines (set lines q None) (Ended (name_at q)) reply s step
     (at_place q lines None (Ended (name_at q)) reply (λ a. unopened) (λ p a. refl) within (λ a c. refl))
 
 pub read_served : (base h g : HubState) (lines : List (Option Line)) (q : ℕ) (old new : Line) (piece front rest : List ℕ) (reply : HubReply)
-    → IsServed (served_state base h lines) → HubStep h (Bytes (name_at q) front) reply g → q < length lines → line_at q lines ≡ Some old → old.unread ≡ []
-    → piece ≡ front ++ rest → new ≡ record old { came = append_known old.came piece; unread = rest; finished = new.finished } → IsServed (served_state base g (set lines q (Some new)))
+    → AreCarried base h lines → HubStep h (Bytes (name_at q) front) reply g → q < length lines → line_at q lines ≡ Some old → old.unread ≡ []
+    → piece ≡ front ++ rest → new ≡ record old { came = append_known old.came piece; unread = rest; finished = new.finished } → AreCarried base g (set lines q (Some new))
 read_served base h g lines q old new piece front rest reply s step within is empty parts so =
     served_step base h g lines (set lines q (Some new)) (Bytes (name_at q) front) reply s step
     (at_place q lines (Some new) (Bytes (name_at q) front) reply (λ a. record a { took = a.took ++ front }) (λ p a. refl) within own)
@@ -162,8 +162,8 @@ read_served base h g lines q old new piece front rest reply s step within is emp
     own a c = subst (λ (l : Line). Carries (record a { took = a.took ++ front }) l) (sym so) (read a (subst (λ (l : Option Line). CarriesAt a l) is c))
 
 pub unread_served : (base h g : HubState) (lines : List (Option Line)) (q : ℕ) (old new : Line) (front rest : List ℕ) (reply : HubReply)
-    → IsServed (served_state base h lines) → HubStep h (Bytes (name_at q) front) reply g → q < length lines → line_at q lines ≡ Some old
-    → old.unread ≡ front ++ rest → new ≡ record old { unread = rest } → IsServed (served_state base g (set lines q (Some new)))
+    → AreCarried base h lines → HubStep h (Bytes (name_at q) front) reply g → q < length lines → line_at q lines ≡ Some old
+    → old.unread ≡ front ++ rest → new ≡ record old { unread = rest } → AreCarried base g (set lines q (Some new))
 unread_served base h g lines q old new front rest reply s step within is parts so =
     served_step base h g lines (set lines q (Some new)) (Bytes (name_at q) front) reply s step
     (at_place q lines (Some new) (Bytes (name_at q) front) reply (λ a. record a { took = a.took ++ front }) (λ p a. refl) within own)
@@ -182,8 +182,8 @@ unread_served base h g lines q old new front rest reply s step within is parts s
     own a c = subst (λ (l : Line). Carries (record a { took = a.took ++ front }) l) (sym so) (read a (subst (λ (l : Option Line). CarriesAt a l) is c))
 
 pub lost_step_served : (base h g : HubState) (lines : List (Option Line)) (q : ℕ) (old new : Line) (front : List ℕ) (came : Option (List ℕ)) (reply : HubReply)
-    → IsServed (served_state base h lines) → HubStep h (Bytes (name_at q) front) reply g → q < length lines → line_at q lines ≡ Some old
-    → new ≡ record old { came = came; broken = true; finished = new.finished } → IsServed (served_state base g (set lines q (Some new)))
+    → AreCarried base h lines → HubStep h (Bytes (name_at q) front) reply g → q < length lines → line_at q lines ≡ Some old
+    → new ≡ record old { came = came; broken = true; finished = new.finished } → AreCarried base g (set lines q (Some new))
 lost_step_served base h g lines q old new front came reply s step within is so =
     served_step base h g lines (set lines q (Some new)) (Bytes (name_at q) front) reply s step
     (at_place q lines (Some new) (Bytes (name_at q) front) reply (λ a. record a { took = a.took ++ front }) (λ p a. refl) within own)
@@ -194,8 +194,8 @@ lost_step_served base h g lines q old new front came reply s step within is so =
     own : (a : Account) → CarriesAt a (line_at q lines) → CarriesAt (record a { took = a.took ++ front }) (Some new)
     own a c = subst (λ (l : Line). Carries (record a { took = a.took ++ front }) l) (sym so) (lost a (subst (λ (l : Option Line). CarriesAt a l) is c))
 
-pub lost_served : (base h : HubState) (lines : List (Option Line)) (q : ℕ) (old new : Line) (came : Option (List ℕ)) → IsServed (served_state base h lines)
-    → q < length lines → line_at q lines ≡ Some old → new ≡ record old { came = came; broken = true; finished = new.finished } → IsServed (served_state base h (set lines q (Some new)))
+pub lost_served : (base h : HubState) (lines : List (Option Line)) (q : ℕ) (old new : Line) (came : Option (List ℕ)) → AreCarried base h lines
+    → q < length lines → line_at q lines ≡ Some old → new ≡ record old { came = came; broken = true; finished = new.finished } → AreCarried base h (set lines q (Some new))
 lost_served base h lines q old new came s within is so = line_served base h lines q (Some new) s within own
   where
     lost : (a : Account) → Carries a old → Carries a (record old { came = came; broken = true; finished = new.finished })
@@ -204,8 +204,8 @@ lost_served base h lines q old new came s within is so = line_served base h line
     own : (a : Account) → CarriesAt a (line_at q lines) → CarriesAt a (Some new)
     own a c = subst (λ (l : Line). Carries a l) (sym so) (lost a (subst (λ (l : Option Line). CarriesAt a l) is c))
 
-pub same_served : (base h : HubState) (lines : List (Option Line)) (q : ℕ) (old new : Line) → IsServed (served_state base h lines) → q < length lines
-    → line_at q lines ≡ Some old → new.came ≡ old.came → new ≡ record old { came = new.came; finished = new.finished } → IsServed (served_state base h (set lines q (Some new)))
+pub same_served : (base h : HubState) (lines : List (Option Line)) (q : ℕ) (old new : Line) → AreCarried base h lines → q < length lines
+    → line_at q lines ≡ Some old → new.came ≡ old.came → new ≡ record old { came = new.came; finished = new.finished } → AreCarried base h (set lines q (Some new))
 same_served base h lines q old new s within is came so = line_served base h lines q (Some new) s within own
   where
     alike : new ≡ record old { finished = new.finished }
@@ -217,9 +217,9 @@ same_served base h lines q old new s within is came so = line_served base h line
     own : (a : Account) → CarriesAt a (line_at q lines) → CarriesAt a (Some new)
     own a c = subst (λ (l : Line). Carries a l) (sym alike) (still a (subst (λ (l : Option Line). CarriesAt a l) is c))
 
-pub flush_served : (base h : HubState) (lines : List (Option Line)) (q : ℕ) (old new : Line) → IsServed (served_state base h lines) → q < length lines
+pub flush_served : (base h : HubState) (lines : List (Option Line)) (q : ℕ) (old new : Line) → AreCarried base h lines → q < length lines
     → line_at q lines ≡ Some old → Sends old.went old.kept new.went new.kept → new ≡ record old { went = new.went; kept = new.kept; full = new.full; finished = new.finished }
-    → IsServed (served_state base h (set lines q (Some new)))
+    → AreCarried base h (set lines q (Some new))
 flush_served base h lines q old new s within is sends so = line_served base h lines q (Some new) s within own
   where
     parts : (a : Account) (bytes : List ℕ) → bytes ++ old.kept ≡ a.collected → (bytes ++ sends.0) ++ new.kept ≡ a.collected
@@ -236,9 +236,9 @@ flush_served base h lines q old new s within is sends so = line_served base h li
     own : (a : Account) → CarriesAt a (line_at q lines) → CarriesAt a (Some new)
     own a c = subst (λ (l : Line). Carries a l) (sym so) (sent a (subst (λ (l : Option Line). CarriesAt a l) is c))
 
-pub collect_served : (base h g : HubState) (lines : List (Option Line)) (q : ℕ) (old new : Line) (reply : HubReply) → IsServed (served_state base h lines)
+pub collect_served : (base h g : HubState) (lines : List (Option Line)) (q : ℕ) (old new : Line) (reply : HubReply) → AreCarried base h lines
     → HubStep h (Collect (name_at q)) reply g → q < length lines → line_at q lines ≡ Some old → old.kept ≡ [] → new ≡ record old { kept = reply.output }
-    → IsServed (served_state base g (set lines q (Some new)))
+    → AreCarried base g (set lines q (Some new))
 collect_served base h g lines q old new reply s step within is empty so =
     served_step base h g lines (set lines q (Some new)) (Collect (name_at q)) reply s step
     (at_place q lines (Some new) (Collect (name_at q)) reply (λ a. record a { collected = a.collected ++ reply.output }) (λ p a. refl) within own)
@@ -261,8 +261,8 @@ collect_served base h g lines q old new reply s step within is empty so =
 
 -- a step with the front of the bytes that were read before
 pub unread_step_served : (base h g : HubState) (lines : List (Option Line)) (q : ℕ) (old new : Line) (unread : List ℕ) (n : ℕ) (reply : HubReply)
-    → IsServed (served_state base h lines) → HubStep h (Bytes (name_at q) (take n unread)) reply g → unread ≡ old.unread → q < length lines
-    → line_at q lines ≡ Some old → new ≡ record old { unread = drop n old.unread } → IsServed (served_state base g (set lines q (Some new)))
+    → AreCarried base h lines → HubStep h (Bytes (name_at q) (take n unread)) reply g → unread ≡ old.unread → q < length lines
+    → line_at q lines ≡ Some old → new ≡ record old { unread = drop n old.unread } → AreCarried base g (set lines q (Some new))
 unread_step_served base h g lines q old new unread n reply s step same within is so =
     unread_served base h g lines q old new (take n old.unread) (drop n old.unread) reply s
     (subst (λ (bytes : List ℕ). HubStep h (Bytes (name_at q) (take n bytes)) reply g) same step) within is
@@ -274,10 +274,10 @@ line_here (y ∷ ys) zero line within e = sym e
 line_here (y ∷ ys) (suc q) line within e = line_here ys q line (omega (arith, within)) e
 
 -- no step was made, and the connection is as before
-pub none_served : (base h g : HubState) (lines : List (Option Line)) (q : ℕ) (old : Line) → IsServed (served_state base h lines) → g ≡ h
-    → q < length lines → line_at q lines ≡ Some old → IsServed (served_state base g (set lines q (Some old)))
+pub none_served : (base h g : HubState) (lines : List (Option Line)) (q : ℕ) (old : Line) → AreCarried base h lines → g ≡ h
+    → q < length lines → line_at q lines ≡ Some old → AreCarried base g (set lines q (Some old))
 none_served base h g lines q old s same within is =
-    subst (λ (hub : HubState). IsServed (served_state base hub (set lines q (Some old)))) (sym same)
+    subst (λ (hub : HubState). AreCarried base hub (set lines q (Some old))) (sym same)
     (same_served base h lines q old old s within is refl refl)
 
 pub no_bytes : (xs : List ℕ) → true ≡ (length xs == 0) → xs ≡ []
@@ -294,9 +294,9 @@ front_all n count buffer within =
 
 -- a step with the front of bytes that were read; the rest is kept, or lost
 pub rest_served : (base h g : HubState) (lines : List (Option Line)) (q : ℕ) (old mid new : Line) (buffer : List ℕ) (n count : ℕ) (reply : HubReply)
-    → IsServed (served_state base h lines) → HubStep h (Bytes (name_at q) (take n (take count buffer))) reply g → q < length lines → line_at q lines ≡ Some old → old.unread ≡ []
+    → AreCarried base h lines → HubStep h (Bytes (name_at q) (take n (take count buffer))) reply g → q < length lines → line_at q lines ≡ Some old → old.unread ≡ []
     → mid.came ≡ append_known old.came (take count buffer) → mid ≡ record old { came = mid.came; finished = mid.finished } → n ≤ count
-    → (new ≡ record mid { unread = take (count - n) (drop n buffer) }) ⊎ (new ≡ record mid { broken = true }) → IsServed (served_state base g (set lines q (Some new)))
+    → (new ≡ record mid { unread = take (count - n) (drop n buffer) }) ⊎ (new ≡ record mid { broken = true }) → AreCarried base g (set lines q (Some new))
 rest_served base h g lines q old mid new buffer n count reply s step within is empty came same part (inl kept) =
     let rest : List ℕ = take (count - n) (drop n buffer) in
     read_served base h g lines q old new (take count buffer) (take n (take count buffer)) rest reply s step within is empty (front_rest n count buffer part)
@@ -309,24 +309,28 @@ rest_served base h g lines q old mid new buffer n count reply s step within is e
 
 -- a step with all bytes that were read
 pub all_served : (base h g : HubState) (lines : List (Option Line)) (q : ℕ) (old mid : Line) (buffer : List ℕ) (n count : ℕ) (reply : HubReply)
-    → IsServed (served_state base h lines) → HubStep h (Bytes (name_at q) (take n (take count buffer))) reply g → q < length lines → line_at q lines ≡ Some old → old.unread ≡ []
-    → mid.came ≡ append_known old.came (take count buffer) → mid ≡ record old { came = mid.came; finished = mid.finished } → count ≤ n → IsServed (served_state base g (set lines q (Some mid)))
+    → AreCarried base h lines → HubStep h (Bytes (name_at q) (take n (take count buffer))) reply g → q < length lines → line_at q lines ≡ Some old → old.unread ≡ []
+    → mid.came ≡ append_known old.came (take count buffer) → mid ≡ record old { came = mid.came; finished = mid.finished } → count ≤ n → AreCarried base g (set lines q (Some mid))
 all_served base h g lines q old mid buffer n count reply s step within is empty came same all =
     read_served base h g lines q old mid (take count buffer) (take n (take count buffer)) [] reply s step within is empty (front_all n count buffer all)
     (same ∙ (ap (λ (c : Option (List ℕ)). record old { came = c; finished = mid.finished }) came
     ∙ ap (λ (b : List ℕ). record old { came = append_known old.came (take count buffer); unread = b; finished = mid.finished }) empty))
 
 -- no step was made, and bytes that were read are lost
-pub none_lost_served : (base h g : HubState) (lines : List (Option Line)) (q : ℕ) (old mid new : Line) → IsServed (served_state base h lines) → g ≡ h
+pub none_lost_served : (base h g : HubState) (lines : List (Option Line)) (q : ℕ) (old mid new : Line) → AreCarried base h lines → g ≡ h
     → q < length lines → line_at q lines ≡ Some old → mid ≡ record old { came = mid.came; finished = mid.finished } → new ≡ record mid { broken = true }
-    → IsServed (served_state base g (set lines q (Some new)))
+    → AreCarried base g (set lines q (Some new))
 none_lost_served base h g lines q old mid new s same within is read lost =
-    subst (λ (hub : HubState). IsServed (served_state base hub (set lines q (Some new)))) (sym same)
+    subst (λ (hub : HubState). AreCarried base hub (set lines q (Some new))) (sym same)
     (lost_served base h lines q old new mid.came s within is (lost ∙ (ap (λ (m : Line). record m { broken = true }) read
     ∙ ap (λ (f : Bool). record old { came = mid.came; broken = true; finished = f }) (sym (ap (λ (l : Line). l.finished) lost)))))
 
 -- the line of one place is written as it was
-pub untouched_served : (base h : HubState) (lines : List (Option Line)) (q : ℕ) (line : Option Line) → IsServed (served_state base h lines) → q < length lines
-    → line_at q lines ≡ line → IsServed (served_state base h (set lines q line))
+pub untouched_served : (base h : HubState) (lines : List (Option Line)) (q : ℕ) (line : Option Line) → AreCarried base h lines → q < length lines
+    → line_at q lines ≡ line → AreCarried base h (set lines q line)
 untouched_served base h lines q line s within is =
     line_served base h lines q line s within (λ a c. subst (λ (l : Option Line). CarriesAt a l) is c)
+
+-- a commit, which changes no state
+pub commit_served : (base h g : HubState) (lines : List (Option Line)) → AreCarried base h lines → g ≡ h → AreCarried base g lines
+commit_served base h g lines s same = subst (λ (hub : HubState). AreCarried base hub lines) (sym same) s

@@ -194,8 +194,8 @@ still_watched old new f m o m2 o2 q w based still ln lm lo grows marks others th
 pub new_reached : (config : HubConfig) → IsReached (new_hub config)
 new_reached config = record { config = config; before = []; follows = refl }
 
-pub new_watched : (h : HubState) (f : ℕ → Option ℕ) → IsReached h → IsWatched (served_state h h []) f [] []
-new_watched h f reached = record {
+pub new_watched : (h : HubState) (committed : Bool) (f : ℕ → Option ℕ) → IsReached h → IsWatched (served_state h h [] committed) f [] []
+new_watched h committed f reached = record {
   reached = reached;
   marked_places = omega arith;
   over_places = omega arith;
@@ -439,3 +439,10 @@ ended_more true true first before now some none more same e = let p = some refl 
 ended_more true false first before now some none more same e = let p = some refl in let q = same refl in omega (arith, p, q)
 ended_more false true first before now some none more same e = let p = none refl in let q = more refl in omega (arith, p, q)
 ended_more false false first before now some none more same e = absurd (true≢false (sym e))
+
+-- a commit, which changes neither the broker's state nor a connection
+pub commit_watched : (old new : ServedState) (f : ℕ → Option ℕ) (m o : List Bool) → IsWatched old f m o → new.base ≡ old.base → new.hub ≡ old.hub → new.lines ≡ old.lines
+    → IsWatched new f m o
+commit_watched old new f m o w base still lines =
+    stays_watched old new 0 f m o w still (record { base = base; places = ap (λ (l : List (Option Line)). length l) lines })
+    (λ p. ap (λ (l : List (Option Line)). output_at p l) lines)

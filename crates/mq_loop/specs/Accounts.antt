@@ -75,18 +75,23 @@ abbrev pub line_at : ℕ → List (Option Line) → Option Line
 line_at place lines = slice_index_or lines place None
 
 -- A broker and the connections that it serves, for contracts: the broker at the beginning, the
--- broker now, and the connection at each place.
+-- broker now, the connection at each place, and whether all steps of the broker are committed.
 pub record ServedState : Type 0 where
   pub base : HubState
   pub hub : HubState
   pub lines : List (Option Line)
+  pub committed : Bool
 
-abbrev pub served_state : HubState → HubState → List (Option Line) → ServedState
-served_state base hub lines = record { base = base; hub = hub; lines = lines }
+abbrev pub served_state : HubState → HubState → List (Option Line) → Bool → ServedState
+served_state base hub lines committed =
+    record { base = base; hub = hub; lines = lines; committed = committed }
 
 -- All steps form one chain of one broker. In these steps each connection carries its bytes, and
 -- those connections are open that exist.
-pub record IsServed (served : ServedState) : Type 0 where
+pub record AreCarried (base hub : HubState) (lines : List (Option Line)) : Type 0 where
   pub made : List Episode
-  pub follows : Follows served.base made served.hub
-  pub carries : (place : ℕ) → CarriesAt (account_of (name_at place) made) (line_at place served.lines)
+  pub follows : Follows base made hub
+  pub carries : (place : ℕ) → CarriesAt (account_of (name_at place) made) (line_at place lines)
+
+abbrev pub IsServed : ServedState → Type 0
+IsServed served = AreCarried served.base served.hub served.lines

@@ -1,4 +1,5 @@
 pub mod Accounts
+pub mod Brokers
 pub mod Places
 pub mod Rounds
 pub mod Sockets

@@ -16,7 +16,7 @@ use Rattle.mq_loop.specs.declared.served.Given.{Given}
 use Rattle.mq_loop.specs.declared.served.Given.TheVariants.{Written, Full, Finished}
 use Rattle.mq_loop.specs.declared.served.Heard.{Heard}
 use Rattle.mq_loop.specs.declared.served.Heard.TheVariants.{Step, Nothing, Over}
-use Rattle.mq_loop.specs.Accounts.{Line, ServedState, line_at, name_at}
+use Rattle.mq_loop.specs.Accounts.{Line, ServedState, line_at, name_at, served_state}
 use Rattle.mq_loop.specs.Places.{count_in, is_in}
 
 -- ---- brokers
@@ -204,3 +204,18 @@ ends_left watched = connections_in watched.served.lines * suc (length watched.ov
 abbrev pub IsSettled : WatchedState → Type 0
 IsSettled watched =
     (place : ℕ) → IsWrittenAt place watched.served ⊎ ((is_in place watched.over ≡ true) × (watched.failed ≡ true))
+
+-- ---- loops
+
+-- A loop, for contracts: its broker and connections, with notes, and whether a commit failed, after
+-- which the loop does nothing any more.
+pub record LoopState : Type 0 where
+  pub watched : WatchedState
+  pub stopped : Bool
+
+-- a loop that has made no round yet
+abbrev pub new_loop : HubState → Bool → LoopState
+new_loop hub committed = record {
+  watched = watched_state (served_state hub hub [] committed) [] [] false;
+  stopped = false;
+}

@@ -1,12 +1,13 @@
 //! Rounds of a loop over all connections.
 
-ghost use Rattle.std.specs.Prelude.{◌≡◌, ◌<◌, [], false, IfSome};
+ghost use Rattle.std.specs.Prelude.{◌≡◌, ◌<◌, [], false, true, IfSome, IsErr, OnErr, OnOk};
 ghost use Rattle.mq_route.specs.Hub.{new_hub};
 ghost use Rattle.mq_loop.specs.Accounts.{IsServed};
-ghost use Rattle.mq_loop.specs.Rounds.{IsReached, IsSettled};
+ghost use Rattle.mq_loop.specs.Rounds.{IsReached, IsSettled, new_loop};
 
 mod input;
 
+use crate::broker::{Broker, CommitFailure};
 use crate::observer::Observer;
 use crate::reading::Reading;
 use crate::report::Report;
@@ -46,13 +47,16 @@ struct Turn {
 /// A loop over one broker and the connections that it serves.
 ///
 /// Each connection has a place, which is also its token. A round reads from the connections that
-/// are ready, oldest first, ends those that are over, and writes the output of the others. So what
-/// an older connection sent before a newer one sent its CONNECT is handled before that CONNECT.
+/// are ready, oldest first, ends those that are over, commits the steps of the broker, and writes
+/// the output of the others. So what an older connection sent before a newer one sent its CONNECT
+/// is handled before that CONNECT.
 #[derive(Drop)]
-pub struct EventLoop<S: Socket + Drop, O: Observer + Drop> {
+pub struct EventLoop<B: Broker + Drop, S: Socket + Drop, O: Observer + Drop> {
     alloc: Global,
     limits: LoopLimits,
-    watched: Watched<S>,
+    watched: Watched<B, S>,
+    // A commit failed.
+    failure: Option<CommitFailure>,
     observer: O,
     readings: Vec<Reading>,
     // The number of places for which each list below has room. A list names a place once at most.
@@ -70,45 +74,49 @@ pub struct EventLoop<S: Socket + Drop, O: Observer + Drop> {
     hung_up_after: u64,
 }
 
-impl<S: Socket + Drop, O: Observer + Drop> Model for EventLoop<S, O> {
+impl<B: Broker + Drop, S: Socket + Drop, O: Observer + Drop> Model for EventLoop<B, S, O> {
     ghost use Rattle.std.specs.Coded.{codes, coded_ℕ};
     ghost use Rattle.std.specs.FinSet as set;
     ghost use Rattle.std.specs.Ordering.{nat_cmp};
-    ghost use Rattle.mq_loop.specs.Rounds.{WatchedState};
+    ghost use Rattle.std.specs.Prelude.{is_some};
+    ghost use Rattle.mq_loop.specs.Rounds.{LoopState};
 
-    ghost Value = { WatchedState };
+    ghost Value = { LoopState };
 
     ghost coded = { Prim.hlevel (codes, set.code {R = nat_cmp} coded_ℕ) };
 
-    ghost view = { λ e. e.watched };
+    ghost view = { λ e. record { watched = e.watched; stopped = is_some e.failure } };
 }
 
-impl<S: Socket + Drop, O: Observer + Drop> EventLoop<S, O> {
+impl<S: Socket + Drop, O: Observer + Drop> EventLoop<Hub, S, O> {
     /// A loop over a new broker. `config.capacity` must be above 0, and so must `config.window` if
     /// it is set.
     #[tactic(auto, using(crate::proofs::Watching::new_reached))]
-    pub fn new(alloc: Global, config: HubConfig, limits: LoopLimits, observer: O) -> EventLoop<S, O>
+    pub fn new(
+        alloc: Global,
+        config: HubConfig,
+        limits: LoopLimits,
+        observer: O,
+    ) -> EventLoop<Hub, S, O>
         requires capacity { 0 < config.capacity }
         requires window { IfSome config.window (λ window. 0 < window) }
-        ensures { result ≡ record {
-          served = record { base = new_hub config; hub = new_hub config; lines = [] };
-          marked = [];
-          over = [];
-          failed = false;
-        } }
+        ensures { result ≡ new_loop (new_hub config) true }
     {
         EventLoop::over(alloc, Hub::new(alloc, config), limits, observer)
     }
+}
 
+impl<B: Broker + Drop, S: Socket + Drop, O: Observer + Drop> EventLoop<B, S, O> {
     /// A loop over a broker that made steps before and knows no connection.
-    pub fn over(alloc: Global, hub: Hub, limits: LoopLimits, observer: O) -> EventLoop<S, O>
-        requires { IsReached hub }
-        ensures { result ≡ record { served = record { base = hub; hub = hub; lines = [] }; marked = []; over = []; failed = false } }
+    pub fn over(alloc: Global, broker: B, limits: LoopLimits, observer: O) -> EventLoop<B, S, O>
+        requires { IsReached (B.state broker) }
+        ensures { result ≡ new_loop (B.state broker) (B.committed broker) }
     {
         EventLoop {
             alloc,
             limits,
-            watched: Watched::new(alloc, hub, limits.most_owed),
+            watched: Watched::new(alloc, broker, limits.most_owed),
+            failure: None,
             observer,
             readings: Vec::new(alloc),
             room: 0,
@@ -125,14 +133,14 @@ impl<S: Socket + Drop, O: Observer + Drop> EventLoop<S, O> {
 
     /// All steps form one chain of one broker, in which each connection carries its bytes.
     pub fn laws(&self)
-        ensures { IsServed self.now.served }
+        ensures { IsServed self.now.watched.served }
     {
         self.watched.laws();
     }
 
     /// The broker.
     pub fn hub(&self) -> &Hub
-        ensures { result.now ≡ self.now.served.hub }
+        ensures { result.now ≡ self.now.watched.served.hub }
     {
         self.watched.hub()
     }
@@ -177,7 +185,8 @@ impl<S: Socket + Drop, O: Observer + Drop> EventLoop<S, O> {
 
     /// Returns a place without a connection, for the next call of [`open`](EventLoop::open).
     pub fn vacant_place(&mut self) -> Result<u32, AllocError>
-        ensures { self.new.served.base ≡ self.old.served.base }
+        ensures base { self.new.watched.served.base ≡ self.old.watched.served.base }
+        ensures stopped { self.new.stopped ≡ self.old.stopped }
     {
         if let Some(place) = self.watched.notes().vacant() {
             return Ok(place);
@@ -212,7 +221,8 @@ impl<S: Socket + Drop, O: Observer + Drop> EventLoop<S, O> {
     pub fn open(&mut self, place: u32, socket: S) -> bool
         requires came { IfSome (S.came socket) (λ bytes. bytes ≡ []) }
         requires went { IfSome (S.went socket) (λ bytes. bytes ≡ []) }
-        ensures { self.new.served.base ≡ self.old.served.base }
+        ensures base { self.new.watched.served.base ≡ self.old.watched.served.base }
+        ensures stopped { self.new.stopped ≡ self.old.stopped }
     {
         if self.watched.notes().vacant() != Some(place) {
             return false;
@@ -260,19 +270,32 @@ impl<S: Socket + Drop, O: Observer + Drop> EventLoop<S, O> {
     }
 
     /// Makes a round at this time, in milliseconds. Reads into `buffer`, which must not be empty.
-    pub fn round(&mut self, now: u64, buffer: &mut [u8])
-        ensures settled { IsSettled self.new }
-        ensures base { self.new.served.base ≡ self.old.served.base }
+    ///
+    /// If a commit fails, no output is collected or written any more: this call and later ones
+    /// return the failure, and the program must end. A commit of a `Hub` never fails.
+    pub fn round(&mut self, now: u64, buffer: &mut [u8]) -> Result<(), CommitFailure>
+        ensures settled { OnOk result (IsSettled self.new.watched) }
+        ensures committed { OnOk result (self.new.watched.served.committed ≡ true) }
+        ensures running { OnOk result (self.new.stopped ≡ false) }
+        ensures stopped { OnErr result (self.new.stopped ≡ true) }
+        ensures later { self.old.stopped ≡ true → IsErr result × (self.new ≡ self.old) }
+        ensures sure { self.old.stopped ≡ false → OnErr result (B.can_fail ≡ true) }
+        ensures base { self.new.watched.served.base ≡ self.old.watched.served.base }
     {
+        if let Some(failure) = self.failure {
+            return Err(failure);
+        }
         self.time = now;
         self.tick(now);
         self.hear_all(buffer);
-        self.watched.settle(&mut self.observer);
+        let settled = self.watched.settle(&mut self.observer);
+        self.failure = settled.err();
+        settled
     }
 
     // Tells the broker the time, if it advanced enough.
     fn tick(&mut self, now: u64)
-        ensures { self.new.served.base ≡ self.old.served.base }
+        ensures { self.new.watched.served.base ≡ self.old.watched.served.base }
     {
         if let Some(last) = self.last_tick {
             if now < last.saturating_add(TICK) {

@@ -1,11 +1,12 @@
 //! A broker and the connections that it serves.
 
-ghost use Rattle.std.specs.Prelude.{◌≡◌, ◌+◌, ◌≤◌, ◌<◌, ◌∷◌, [], ◌++◌, false, None, Some, IfErr, IfNone, IfOk, IfSome, OnErr, OnOk, OnSome, length, slice_set, take};
+ghost use Rattle.std.specs.Prelude.{◌≡◌, ◌+◌, ◌≤◌, ◌<◌, ◌∷◌, [], ◌++◌, false, true, None, Some, IfErr, IfNone, IfOk, IfSome, OnErr, OnOk, OnSome, length, slice_set, take};
 ghost use Rattle.mq_route.specs.declared.event.HubEvent.TheVariants.{Bytes as BytesSeen, Collect, Ended, Opened, Tick};
 ghost use Rattle.mq_route.specs.Step.{HubStep};
 ghost use Rattle.mq_loop.specs.Accounts.{IsServed, line_at, name_at};
 ghost use Rattle.mq_loop.specs.Rounds.{AtOutputs, Collects, Hears, HearsNothing, IsFlushed, IsGiven, IsSame, IsWrittenAt, MayCollect, OthersStay, connections_in, exists_at, output_at};
 
+use crate::broker::{Broker, CommitFailure};
 use crate::connection::{Connection, Flushed};
 use crate::socket::Socket;
 use mq_hub::Hub;
@@ -49,26 +50,26 @@ pub enum Given {
 /// The connection at place p has the name of worker 0 and number p. Its place may be used again
 /// after it has ended.
 #[derive(Drop)]
-pub struct Served<S: Socket> {
+pub struct Served<B: Broker, S: Socket> {
     alloc: Global,
-    base: Snapshot<Hub>,
-    hub: Hub,
+    base: Snapshot<B>,
+    broker: B,
     connections: Vec<Option<Connection<S>>>,
 }
 
-impl<S: Socket> Model for Served<S> {
+impl<B: Broker, S: Socket> Model for Served<B, S> {
     ghost use Rattle.std.specs.Coded.{codes, coded_ℕ};
     ghost use Rattle.std.specs.FinSet as set;
     ghost use Rattle.std.specs.Ordering.{nat_cmp};
-    ghost use Rattle.mq_loop.specs.Accounts.{IsServed, ServedState, served_state};
+    ghost use Rattle.mq_loop.specs.Accounts.{AreCarried, ServedState, served_state};
 
     ghost Value = { ServedState };
 
     ghost coded = { Prim.hlevel (codes, set.code {R = nat_cmp} coded_ℕ) };
 
-    ghost view = { λ s. served_state s.base.value s.hub s.connections.items };
+    ghost view = { λ s. served_state (B.state s.base.value) (B.state s.broker) s.connections.items (B.committed s.broker) };
 
-    ghost invariant = { λ s. IsServed (served_state s.base.value s.hub s.connections.items) };
+    ghost invariant = { λ s. AreCarried (B.state s.base.value) (B.state s.broker) s.connections.items };
 }
 
 // The name of the connection at a place.
@@ -83,27 +84,27 @@ fn name_at(place: u32) -> Conn
 
 // Makes the step of the front of these bytes, which must not be empty. Returns the reply and the
 // number of bytes that the step took. On `None` an allocation failed, and no step was made.
-fn take_some(hub: &mut Hub, place: u32, bytes: &[u8]) -> Option<(HubReply, usize)>
-    ensures step { IfSome result (λ r. HubStep hub.old (BytesSeen (name_at place) (take r.1 bytes.now)) r.0 hub.new) }
+fn take_some<B: Broker>(broker: &mut B, place: u32, bytes: &[u8]) -> Option<(HubReply, usize)>
+    ensures step { IfSome result (λ r. HubStep (B.state broker.old) (BytesSeen (name_at place) (take r.1 bytes.now)) r.0 (B.state broker.new)) }
     ensures within { IfSome result (λ r. r.1 ≤ length bytes.now) }
-    ensures none { IfNone result (hub.new ≡ hub.old) }
+    ensures none { IfNone result (B.state broker.new ≡ B.state broker.old) }
 {
-    match hub.step_some(name_at(place), bytes, MOST_ACTS) {
+    match broker.step_some(name_at(place), bytes, MOST_ACTS) {
         Ok((reply, count)) => Some((reply, count)),
         Err(_) => None,
     }
 }
 
-impl<S: Socket + Drop> Served<S> {
+impl<B: Broker + Drop, S: Socket + Drop> Served<B, S> {
     /// A broker that serves no connection yet.
     #[tactic(auto, using(crate::proofs::CarriedBytes::new_served))]
-    pub fn new(alloc: Global, hub: Hub) -> Served<S>
-        ensures { result ≡ record { base = hub; hub = hub; lines = [] } }
+    pub fn new(alloc: Global, broker: B) -> Served<B, S>
+        ensures { result ≡ record { base = B.state broker; hub = B.state broker; lines = []; committed = B.committed broker } }
     {
         Served {
             alloc,
-            base: Snapshot::of(&hub),
-            hub,
+            base: Snapshot::of(&broker),
+            broker,
             connections: Vec::new(alloc),
         }
     }
@@ -112,14 +113,14 @@ impl<S: Socket + Drop> Served<S> {
     pub fn laws(&self)
         ensures { IsServed self.now }
     {
-        let _ = &self.hub;
+        let _ = &self.broker;
     }
 
     /// The broker.
     pub fn hub(&self) -> &Hub
         ensures { result.now ≡ self.now.hub }
     {
-        &self.hub
+        self.broker.hub()
     }
 
     /// The number of places.
@@ -162,7 +163,7 @@ impl<S: Socket + Drop> Served<S> {
         if at >= self.connections.len() || self.connections[at].is_some() {
             return Err(HubRefusal::ConnInUse);
         }
-        let reply = self.hub.step(&HubEvent::Opened(name_at(place)))?;
+        let reply = self.broker.step(&HubEvent::Opened(name_at(place)))?;
         self.connections[at] = Some(Connection::new(socket));
         Ok(reply)
     }
@@ -175,7 +176,7 @@ impl<S: Socket + Drop> Served<S> {
         ensures base { self.new.base ≡ self.old.base }
         ensures err { OnErr result (self.new ≡ self.old) }
     {
-        self.hub.step(&HubEvent::Tick(now))
+        self.broker.step(&HubEvent::Tick(now))
     }
 
     /// Makes the broker's step with bytes of a connection: with those that wait for a step, or else
@@ -199,7 +200,7 @@ impl<S: Socket + Drop> Served<S> {
             return Heard::Over;
         }
         if !connection.unread().is_empty() {
-            let Some((reply, used)) = take_some(&mut self.hub, place, connection.unread()) else {
+            let Some((reply, used)) = take_some(&mut self.broker, place, connection.unread()) else {
                 return Heard::Over;
             };
             connection.skip_unread(used);
@@ -210,7 +211,7 @@ impl<S: Socket + Drop> Served<S> {
             ReadOutcome::Nothing => return Heard::Nothing,
             ReadOutcome::End | ReadOutcome::Failed => return Heard::Over,
         };
-        let Some((reply, used)) = take_some(&mut self.hub, place, &buffer[..count]) else {
+        let Some((reply, used)) = take_some(&mut self.broker, place, &buffer[..count]) else {
             connection.mark_broken();
             return Heard::Over;
         };
@@ -272,6 +273,7 @@ impl<S: Socket + Drop> Served<S> {
     /// Writes the output that is kept for a connection, as far as its socket takes it.
     pub fn flush(&mut self, place: u32) -> Flushed
         ensures hub { self.new.hub ≡ self.old.hub }
+        ensures committed { self.new.committed ≡ self.old.committed }
         ensures others { OthersStay place self.old.lines self.new.lines }
         ensures here { AtOutputs (output_at place self.old.lines) (output_at place self.new.lines) (IsFlushed result) }
         ensures same { IsSame self.old self.new }
@@ -287,12 +289,15 @@ impl<S: Socket + Drop> Served<S> {
     }
 
     /// Collects the pending output of a connection, unless output is kept for it, and keeps it to
-    /// be written. Returns the reply, or `None` if nothing was collected.
+    /// be written. All steps must be committed. Returns the reply, or `None` if nothing was
+    /// collected.
     #[tactic(auto, using(crate::proofs::CarriedBytes::collect_served))]
     pub fn collect(&mut self, place: u32) -> Result<Option<bool>, HubRefusal>
+        requires committed { self.old.committed ≡ true }
         ensures step { IfOk result (Collects place self.old.hub self.new.hub (output_at place self.old.lines)) }
         ensures others { OthersStay place self.old.lines self.new.lines }
         ensures here { AtOutputs (output_at place self.old.lines) (output_at place self.new.lines) (λ old new. new.finished ≡ old.finished) }
+        ensures still { self.new.committed ≡ self.old.committed }
         ensures same { IsSame self.old self.new }
         ensures err { OnErr result (self.new ≡ self.old) }
     {
@@ -306,16 +311,18 @@ impl<S: Socket + Drop> Served<S> {
         if connection.is_blocked() {
             return Ok(None);
         }
-        let reply = self.hub.step(&HubEvent::Collect(name_at(place)))?;
+        let reply = self.broker.collect(name_at(place))?;
         connection.keep(reply.output);
         Ok(Some(reply.alive))
     }
 
     /// Writes the pending output of a connection, at the broker and here, as far as its socket
-    /// takes it. Keeps the rest.
+    /// takes it. Keeps the rest. All steps must be committed.
     pub fn give(&mut self, place: u32) -> Given
+        requires committed { self.old.committed ≡ true }
         ensures given { IsGiven result (IsWrittenAt place self.new) }
         ensures hub { MayCollect place self.old.hub self.new.hub }
+        ensures still { self.new.committed ≡ self.old.committed }
         ensures others { OthersStay place self.old.lines self.new.lines }
         ensures exists { exists_at place self.new.lines ≡ exists_at place self.old.lines }
         ensures same { IsSame self.old self.new }
@@ -358,8 +365,20 @@ impl<S: Socket + Drop> Served<S> {
         if at >= self.connections.len() || self.connections[at].is_none() {
             return Ok(None);
         }
-        let reply = self.hub.step(&HubEvent::Ended(name_at(place)))?;
+        let reply = self.broker.step(&HubEvent::Ended(name_at(place)))?;
         self.connections[at] = None;
         Ok(Some(reply))
+    }
+
+    /// Commits all steps of the broker. After an error the program must end.
+    #[tactic(auto, using(crate::proofs::CarriedBytes::commit_served))]
+    pub fn commit(&mut self) -> Result<(), CommitFailure>
+        ensures ok { OnOk result (self.new.committed ≡ true) }
+        ensures hub { self.new.hub ≡ self.old.hub }
+        ensures lines { self.new.lines ≡ self.old.lines }
+        ensures base { self.new.base ≡ self.old.base }
+        ensures sure { OnErr result (B.can_fail ≡ true) }
+    {
+        self.broker.commit()
     }
 }

@@ -1,10 +1,11 @@
 //! A broker and its connections, with notes about which have output and which are over.
 
 ghost use Rattle.std.specs.Prelude.{◌≡◌, ◌<◌, ◌≤◌, ◌⊎◌, ◌||◌, ◌∷◌, [], ◌++◌, ℕ, false, true, None, Some, IfOk, IfSome, IfNone, OnErr, OnOk, OnSome, length};
-ghost use Rattle.mq_loop.specs.Accounts.{IsServed};
+ghost use Rattle.mq_loop.specs.Accounts.{IsServed, served_state};
 ghost use Rattle.mq_loop.specs.Places.{count_in};
-ghost use Rattle.mq_loop.specs.Rounds.{AreEnded, IsEmpty, IsReached, IsSettled, connections_in, ends_left};
+ghost use Rattle.mq_loop.specs.Rounds.{AreEnded, IsEmpty, IsReached, IsSettled, connections_in, ends_left, watched_state};
 
+use crate::broker::{Broker, CommitFailure};
 use crate::connection::Flushed;
 use crate::notes::Notes;
 use crate::observer::Observer;
@@ -18,13 +19,13 @@ use std::marker::Model;
 
 /// A broker and the connections that it serves, with notes.
 #[derive(Drop)]
-pub(crate) struct Watched<S: Socket + Drop> {
-    served: Served<S>,
+pub(crate) struct Watched<B: Broker + Drop, S: Socket + Drop> {
+    served: Served<B, S>,
     notes: Notes,
     most_owed: usize,
 }
 
-impl<S: Socket + Drop> Model for Watched<S> {
+impl<B: Broker + Drop, S: Socket + Drop> Model for Watched<B, S> {
     ghost use Rattle.std.specs.Prelude.{nat_eq};
     ghost use Rattle.std.specs.Coded.{codes, coded_ℕ};
     ghost use Rattle.std.specs.FinSet as set;
@@ -48,14 +49,14 @@ fn either(first: bool, second: bool) -> bool
     first || second
 }
 
-impl<S: Socket + Drop> Watched<S> {
+impl<B: Broker + Drop, S: Socket + Drop> Watched<B, S> {
     /// A broker that serves no connection yet.
-    pub(crate) fn new(alloc: Global, hub: Hub, most_owed: usize) -> Watched<S>
-        requires { IsReached hub }
-        ensures { result ≡ record { served = record { base = hub; hub = hub; lines = [] }; marked = []; over = []; failed = false } }
+    pub(crate) fn new(alloc: Global, broker: B, most_owed: usize) -> Watched<B, S>
+        requires { IsReached (B.state broker) }
+        ensures { result ≡ watched_state (served_state (B.state broker) (B.state broker) [] (B.committed broker)) [] [] false }
     {
         Watched {
-            served: Served::new(alloc, hub),
+            served: Served::new(alloc, broker),
             notes: Notes::new(alloc),
             most_owed,
         }
@@ -157,18 +158,46 @@ impl<S: Socket + Drop> Watched<S> {
         }
     }
 
-    /// Ends the connections that are over, and writes the output of the others.
-    pub(crate) fn settle<O: Observer>(&mut self, observer: &mut O)
-        ensures settled { IsSettled self.new }
+    /// Ends the connections that are over, commits all steps, and writes the output of the others.
+    ///
+    /// On `Err` output that was committed before is written, and no other.
+    pub(crate) fn settle<O: Observer>(&mut self, observer: &mut O) -> Result<(), CommitFailure>
+        ensures settled { OnOk result (IsSettled self.new) }
+        ensures committed { OnOk result (self.new.served.committed ≡ true) }
+        ensures sure { OnErr result (B.can_fail ≡ true) }
         ensures base { self.new.served.base ≡ self.old.served.base }
     {
         self.notes.has_failed = false;
         let _ = self.end_all(observer);
-        self.give_all(observer);
+        self.commit_and_give(observer)?;
         while self.end_all(observer) {
-            self.give_all(observer);
+            self.commit_and_give(observer)?;
         }
         self.check_settled();
+        Ok(())
+    }
+
+    // Commits all steps, and then writes the output of each connection that is marked.
+    fn commit_and_give<O: Observer>(&mut self, observer: &mut O) -> Result<(), CommitFailure>
+        ensures marked { OnOk result (IsEmpty self.new.marked) }
+        ensures committed { OnOk result (self.new.served.committed ≡ true) }
+        ensures sure { OnErr result (B.can_fail ≡ true) }
+        ensures connections { connections_in self.new.served.lines ≡ connections_in self.old.served.lines }
+        ensures base { self.new.served.base ≡ self.old.served.base }
+    {
+        self.commit()?;
+        self.give_all(observer);
+        Ok(())
+    }
+
+    // Commits all steps.
+    fn commit(&mut self) -> Result<(), CommitFailure>
+        ensures committed { OnOk result (self.new.served.committed ≡ true) }
+        ensures sure { OnErr result (B.can_fail ≡ true) }
+        ensures lines { self.new.served.lines ≡ self.old.served.lines }
+        ensures base { self.new.served.base ≡ self.old.served.base }
+    {
+        self.served.commit()
     }
 
     // Nothing to do: states the end of a round.
@@ -181,6 +210,7 @@ impl<S: Socket + Drop> Watched<S> {
     // Ends each connection that is over. Returns whether a connection was ended.
     fn end_all<O: Observer>(&mut self, observer: &mut O) -> bool
         ensures ended { AreEnded self.new }
+        ensures same { result ≡ false → self.new.served ≡ self.old.served }
         ensures some { result ≡ true → connections_in self.new.served.lines < connections_in self.old.served.lines }
         ensures none { result ≡ false → self.new.marked ≡ self.old.marked }
         ensures base { self.new.served.base ≡ self.old.served.base }
@@ -223,7 +253,10 @@ impl<S: Socket + Drop> Watched<S> {
         }
     }
 
+    // Writes the output of each connection that is marked. All steps must be committed.
     fn give_all<O: Observer>(&mut self, observer: &mut O)
+        requires committed { self.old.served.committed ≡ true }
+        ensures still { self.new.served.committed ≡ true }
         ensures marked { IsEmpty self.new.marked }
         ensures connections { connections_in self.new.served.lines ≡ connections_in self.old.served.lines }
         ensures base { self.new.served.base ≡ self.old.served.base }
@@ -233,6 +266,8 @@ impl<S: Socket + Drop> Watched<S> {
 
     // Writes the output of a connection that is marked. Returns false if none is.
     fn give_next<O: Observer>(&mut self, observer: &mut O) -> bool
+        requires committed { self.old.served.committed ≡ true }
+        ensures still { self.new.served.committed ≡ true }
         ensures none { result ≡ false → IsEmpty self.new.marked }
         ensures some { result ≡ true → count_in self.new.marked < count_in self.old.marked }
         ensures connections { connections_in self.new.served.lines ≡ connections_in self.old.served.lines }

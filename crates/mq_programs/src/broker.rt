@@ -1,92 +1,178 @@
 //! The command `broker`.
 
+ghost use Rattle.std.specs.Prelude.{◌≡◌, ◌*◌, option_map};
+ghost use Rattle.mq_programs.specs.Options.{argument_status, when_full_of};
+
 use mq_broker::{BrokerEnd, BrokerOptions, Log, LogLevel, run_broker};
-use mq_cli::{Broker, Failure};
-use mq_end::BoxedList;
-use mq_route::User;
-use mq_status::{plain_users, read_passwords};
+use mq_cli::{Broker, OnFull};
+use mq_route::WhenFull;
+use mq_status::{PasswordsError, UserTables, read_users};
 use std::alloc::Global;
 use std::fs::{File, OpenOptions};
-use std::io::{BufWriter, Read, Write};
+use std::io;
+use std::io::{BufWriter, ErrorKind, Read, Write};
 use std::net::{Net, SocketAddr};
 use std::rt::Files;
 use std::time::Clock;
+use thiserror::Error;
 
 /// The address and port on which the broker listens without `--listen`.
 const LISTEN: &str = "127.0.0.1:1883";
 
-// The status of an invalid argument.
-const INVALID: u8 = 2;
+/// Why a broker can't start with its arguments.
+#[derive(Debug, Drop, Error)]
+enum ArgumentError<'a> {
+    /// A text is not an address.
+    #[error("'{0}' is not an address: write ADDR:PORT")]
+    Address(&'a str),
+    /// The file of passwords can't be read.
+    #[error("the passwords '{0}' cannot be read")]
+    Unread(&'a str),
+    /// The file of passwords is not valid.
+    #[error("the passwords '{0}': {1}")]
+    Passwords(&'a str, PasswordsError),
+    /// The file of the log can't be opened.
+    #[error("the log '{0}' cannot be opened")]
+    Log(&'a str),
+    /// An allocation failed.
+    #[error("out of memory")]
+    Memory,
+}
 
-// An address of an argument. Writes to `errors` why it is not one.
-fn address_of<E: Write>(errors: &mut E, text: &str) -> Option<SocketAddr> {
+impl<'a> ArgumentError<'a> {
+    // The exit status of the program: 3 if an allocation failed, otherwise 2.
+    fn status(&self) -> u8
+        ensures { result ≡ argument_status self.now }
+    {
+        match self {
+            ArgumentError::Memory => 3,
+            ArgumentError::Address(_)
+            | ArgumentError::Unread(_)
+            | ArgumentError::Passwords(..)
+            | ArgumentError::Log(_) => 2,
+        }
+    }
+
+    // Why the file of passwords can't be read.
+    fn of_read(name: &'a str, error: &io::Error) -> ArgumentError<'a> {
+        match error.kind() {
+            ErrorKind::OutOfMemory => ArgumentError::Memory,
+            _ => ArgumentError::Unread(name),
+        }
+    }
+
+    // Why the file of passwords is not valid.
+    fn of_passwords(name: &'a str, error: PasswordsError) -> ArgumentError<'a> {
+        match error {
+            PasswordsError::Memory => ArgumentError::Memory,
+            error => ArgumentError::Passwords(name, error),
+        }
+    }
+}
+
+fn address_of<'a>(text: &'a str) -> Result<SocketAddr, ArgumentError<'a>> {
     match text.parse::<SocketAddr>() {
-        Ok(address) => Some(address),
-        Err(_) => {
-            let _ = writeln!(errors, "mqtt: '{text}' is not an address: write ADDR:PORT");
-            None
-        }
+        Ok(address) => Ok(address),
+        Err(_) => Err(ArgumentError::Address(text)),
     }
 }
 
-// The users of a file. Writes to `errors` why there are none.
-fn users_of<R: Files<File = File>, E: Write>(
+// The users of a file of passwords.
+fn tables_of<'a, R: Files<File = File>>(
     rt: &R,
     alloc: Global,
-    errors: &mut E,
-    name: &str,
-) -> Option<BoxedList<User>> {
+    name: &'a str,
+) -> Result<UserTables, ArgumentError<'a>> {
     let mut bytes = Vec::new(alloc);
-    let read = match File::open(rt, name) {
-        Ok(mut file) => file.read_to_end(&mut bytes).is_ok(),
-        Err(_) => false,
+    let mut file = match File::open(rt, name) {
+        Ok(file) => file,
+        Err(error) => return Err(ArgumentError::of_read(name, &error)),
     };
-    if !read {
-        let _ = writeln!(errors, "mqtt: the passwords '{name}' cannot be read");
-        return None;
+    if let Err(error) = file.read_to_end(&mut bytes) {
+        return Err(ArgumentError::of_read(name, &error));
     }
-    let entries = match read_passwords(alloc, bytes.as_slice()) {
-        Ok(entries) => entries,
-        Err(error) => {
-            let _ = writeln!(errors, "mqtt: the passwords '{name}': {error}");
-            return None;
-        }
-    };
-    match plain_users(alloc, entries) {
-        Ok(users) => Some(users),
-        Err(error) => {
-            let _ = writeln!(errors, "mqtt: the passwords '{name}': {error}");
-            None
-        }
+    match read_users(alloc, bytes.as_slice()) {
+        Ok(tables) => Ok(tables),
+        Err(error) => Err(ArgumentError::of_passwords(name, error)),
     }
 }
 
-// The options of the broker. Writes to `errors` which argument is invalid.
-fn options_of<R: Files<File = File>, E: Write>(
-    rt: &R,
-    alloc: Global,
-    errors: &mut E,
+// The treatment of a copy for a full session.
+fn when_full_of(choice: OnFull) -> WhenFull
+    ensures { result ≡ when_full_of choice }
+{
+    match choice {
+        OnFull::Drop => WhenFull::DropCopy,
+        OnFull::Close => WhenFull::ClosePublisher,
+    }
+}
+
+// The milliseconds of seconds.
+fn milliseconds_of(seconds: Option<u32>) -> Option<u64>
+    ensures { result ≡ option_map (λ count. count * 1000) seconds }
+{
+    match seconds {
+        Some(seconds) => Some(u64::from(seconds) * 1_000),
+        None => None,
+    }
+}
+
+// The options of the arguments, with addresses and without users.
+fn open_options(
     words: &Broker<'_>,
-) -> Option<BrokerOptions> {
-    let listen = address_of(errors, words.listen.unwrap_or(LISTEN))?;
-    let metrics = match words.metrics {
-        Some(text) => Some(address_of(errors, text)?),
-        None => None,
-    };
-    let users = match words.passwords {
-        Some(name) => Some(users_of(rt, alloc, errors, name)?),
-        None => None,
-    };
-    Some(BrokerOptions {
+    listen: SocketAddr,
+    metrics: Option<SocketAddr>,
+) -> BrokerOptions
+    ensures listen { result.listen ≡ listen }
+    ensures metrics { result.metrics ≡ metrics }
+    ensures connections { result.max_connections ≡ words.now.max_connections }
+    ensures sessions { result.max_sessions ≡ words.now.max_sessions }
+    ensures packet { result.max_packet ≡ words.now.max_packet }
+    ensures capacity { result.capacity ≡ words.now.capacity }
+    ensures waiting { result.max_waiting ≡ words.now.max_waiting }
+    ensures when_full { result.when_full ≡ when_full_of words.now.when_full }
+    ensures connect_within { result.connect_within
+        ≡ option_map (λ seconds. seconds * 1000) words.now.connect_within }
+    ensures users { (result.users ≡ None) × (result.hashed_users ≡ None) }
+{
+    BrokerOptions {
         listen,
         max_connections: words.max_connections as usize,
         max_sessions: words.max_sessions as usize,
         max_packet: words.max_packet,
         capacity: words.capacity,
         max_waiting: words.max_waiting as usize,
-        users,
+        when_full: when_full_of(words.when_full),
+        connect_within: milliseconds_of(words.connect_within),
+        users: None,
+        hashed_users: None,
         metrics,
-    })
+    }
+}
+
+// The options of the arguments, with the addresses and the users that they name.
+fn options_of<'a, R: Files<File = File>>(
+    rt: &R,
+    alloc: Global,
+    words: &Broker<'a>,
+) -> Result<BrokerOptions, ArgumentError<'a>> {
+    let listen = address_of(words.listen.unwrap_or(LISTEN))?;
+    let metrics = match words.metrics {
+        Some(text) => Some(address_of(text)?),
+        None => None,
+    };
+    let options = open_options(words, listen, metrics);
+    match words.passwords {
+        Some(name) => {
+            let tables = tables_of(rt, alloc, name)?;
+            Ok(BrokerOptions {
+                users: Some(tables.users),
+                hashed_users: Some(tables.hashed_users),
+                ..options
+            })
+        }
+        None => Ok(options),
+    }
 }
 
 fn level_of(words: &Broker<'_>) -> LogLevel {
@@ -99,45 +185,68 @@ fn level_of(words: &Broker<'_>) -> LogLevel {
     }
 }
 
+// Runs the broker, with its log in a file or at `errors`.
+fn run_logged<'a, R, W, E>(
+    rt: &R,
+    alloc: Global,
+    words: &Broker<'a>,
+    output: &mut W,
+    errors: &mut E,
+) -> Result<BrokerEnd, ArgumentError<'a>>
+where
+    R: Net + Clock + Files<File = File>,
+    W: Write,
+    E: Write + Drop,
+{
+    let options = options_of(rt, alloc, words)?;
+    let level = level_of(words);
+    match words.log {
+        None => {
+            let Ok(buffer) = BufWriter::new(alloc, errors) else {
+                return Err(ArgumentError::Memory);
+            };
+            let log = Log::new(alloc, buffer, level);
+            Ok(run_broker(rt, alloc, options, output, log))
+        }
+        Some(name) => {
+            let Ok(file) = OpenOptions::new().append(true).create(true).open(rt, name) else {
+                return Err(ArgumentError::Log(name));
+            };
+            let Ok(buffer) = BufWriter::new(alloc, file) else {
+                return Err(ArgumentError::Memory);
+            };
+            let log = Log::new(alloc, buffer, level);
+            Ok(run_broker(rt, alloc, options, output, log))
+        }
+    }
+}
+
 /// Runs the broker until it is stopped. Writes `listening ADDR:PORT` to `output` and flushes it.
 ///
 /// Writes the log to its file or to `errors`, and the reason of an early end to `errors`. Returns
-/// the status: 2 for an invalid argument, 1 if its listener failed, 3 if an allocation failed.
+/// the status: 2 for an invalid argument, 1 if its listener failed, 3 if an allocation failed, 4 if
+/// the output failed.
 pub fn run_broker_command<R, W, E>(
     rt: &R,
     alloc: Global,
     words: &Broker<'_>,
     output: &mut W,
     mut errors: E,
-) -> Result<u8, Failure>
+) -> u8
 where
     R: Net + Clock + Files<File = File>,
     W: Write,
     E: Write + Drop,
 {
-    let Some(options) = options_of(rt, alloc, &mut errors, words) else {
-        return Ok(INVALID);
-    };
-    let level = level_of(words);
-    let end = match words.log {
-        None => {
-            let log = Log::new(alloc, BufWriter::new(alloc, &mut errors)?, level);
-            run_broker(rt, alloc, options, output, log)
+    match run_logged(rt, alloc, words, output, &mut errors) {
+        Ok(end) => {
+            let listen = words.listen.unwrap_or(LISTEN);
+            let _ = writeln!(errors, "mqtt: broker at {listen}: {end}");
+            end.status()
         }
-        Some(name) => {
-            let Ok(file) = OpenOptions::new().append(true).create(true).open(rt, name) else {
-                let _ = writeln!(errors, "mqtt: the log '{name}' cannot be opened");
-                return Ok(INVALID);
-            };
-            let log = Log::new(alloc, BufWriter::new(alloc, file)?, level);
-            run_broker(rt, alloc, options, output, log)
+        Err(error) => {
+            let _ = writeln!(errors, "mqtt: {error}");
+            error.status()
         }
-    };
-    write_end(&mut errors, words.listen.unwrap_or(LISTEN), end);
-    Ok(end.status())
-}
-
-// Writes why the broker ended.
-fn write_end<E: Write>(errors: &mut E, listen: &str, end: BrokerEnd) {
-    let _ = writeln!(errors, "mqtt: broker at {listen}: {end}");
+    }
 }

@@ -1,5 +1,5 @@
-//! The commands `publish`, `collect`, `serve`, `broker`, `loopback` and `replay --svg`, over the
-//! sockets and files of the system and into any output.
+//! The commands `publish`, `collect`, `serve`, `broker`, `password`, `loopback` and `replay --svg`,
+//! over the sockets and files of the system and into any output.
 //!
 //! A call that may allocate says so in its return type; other calls never allocate.
 //! On `Err` the receiver is unchanged unless stated otherwise.
@@ -9,6 +9,7 @@ mod broker;
 mod clients;
 mod drawing;
 mod loopback;
+mod password;
 mod reason;
 mod server;
 
@@ -16,4 +17,5 @@ pub use crate::broker::run_broker_command;
 pub use crate::clients::{run_client, run_collect, run_publish};
 pub use crate::drawing::run_draw;
 pub use crate::loopback::run_loopback;
+pub use crate::password::run_password;
 pub use crate::server::{run_serve, run_serve_on};

@@ -1,5 +1,5 @@
 -- Counters that grow.
-use Rattle.std.proofs.Common.{◌≡◌, ℕ, ◌+◌, ◌-◌, ◌<◌, min, List, length, take, get_or, refl, sym, ◌∙◌, ap, arith, lit<}
+use Rattle.std.proofs.Common.{◌≡◌, ℕ, ◌+◌, ◌<◌, List, length, take, get_or, sym, ◌∙◌, ap, arith, lit<}
 use Rattle.std.proofs.lemmas.List.Sums.{sum_by_more}
 use Rattle.mq_route.specs.declared.act.Act.{Act}
 use Rattle.mq_topic.specs.Qos.{qos_number}

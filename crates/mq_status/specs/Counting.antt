@@ -4,7 +4,6 @@ use Rattle.std.specs.List.{sum_by}
 use Rattle.mq_topic.specs.Qos.{qos_number}
 use Rattle.mq_packet.specs.Codes.{refusal_number}
 use Rattle.mq_packet.specs.declared.message.Message.{Message}
-use Rattle.mq_end.specs.declared.reason.CloseReason.{CloseReason}
 use Rattle.mq_end.specs.declared.reason.CloseReason.TheVariants as ends
 use Rattle.mq_route.specs.declared.act.Act.{Act}
 use Rattle.mq_route.specs.declared.act.Act.TheVariants as acts

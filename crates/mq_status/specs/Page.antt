@@ -16,7 +16,6 @@ abbrev pub row_text : SessionRow → List ℕ
 row_text row =
     codes "<tr><td>" ++ (html_escaped row.client
     ++ (codes "<td>" ++ (decimal row.stored_messages
-    ++ (codes "<td>" ++ (decimal row.stored_bytes
     ++ (codes "<td>" ++ (decimal row.pending_bytes
     ++ (codes "<td>" ++ (decimal row.missed
-    ++ (codes "<td>" ++ (state_word row.state ++ codes "\n")))))))))))
+    ++ (codes "<td>" ++ (state_word row.state ++ codes "\n")))))))))

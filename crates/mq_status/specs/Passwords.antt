@@ -1,13 +1,18 @@
 -- A file of passwords.
-use Rattle.std.specs.Prelude.{◌≡◌, ℕ, ◌+◌, Bool, true, false, ◌&&◌, ◌||◌, not, ◌==◌, nat_le, nat_lt, List, [], ◌∷◌, ◌++◌, length, map, slice_index, codes, Option, Some, None, Result, Ok, Err, if◌then◌else◌, IsUtf8, ⊤}
-use Rattle.std.specs.List.{before_first, after_first, position_or_len, list_all}
+use Rattle.std.specs.Prelude.{◌≡◌, ℕ, ◌+◌, Bool, true, false, ◌&&◌, ◌||◌, not, ◌==◌, nat_le, nat_lt, List, [], ◌∷◌, ◌++◌, length, slice_index, codes, Option, Some, None, Result, Ok, Err, if◌then◌else◌, IsUtf8, ⊤}
+use Rattle.std.specs.List.{before_first, after_first, position_or_len, list_all, list_any, flat_map}
 use Rattle.std.specs.Result.{result_ok}
 use Rattle.std.specs.Str.{bytes_eq}
 use Rattle.std.specs.Str.Lines.{lines}
 use Rattle.hex.specs.Hex.{decode_sized, encode_lower}
 use Rattle.sha2.specs.Sha256.{sha256}
 use Rattle.mq_wire.specs.Text.{has_nul}
+use Rattle.mq_packet.specs.declared.connack.RefusalCode.{RefusalCode}
+use Rattle.mq_packet.specs.declared.connack.RefusalCode.TheVariants.{BadUserNameOrPassword, NotAuthorized}
+use Rattle.mq_packet.specs.declared.connect.Login.{Login}
+use Rattle.mq_route.specs.declared.config.HashedUser.{HashedUser}
 use Rattle.mq_route.specs.declared.config.User.{User}
+use Rattle.mq_route.specs.Welcome.{refusal_by_tables}
 use Rattle.mq_status.specs.declared.passwords.Entry.{Entry}
 use Rattle.mq_status.specs.declared.passwords.LineError.{LineError}
 use Rattle.mq_status.specs.declared.passwords.LineError.TheVariants as private
@@ -141,17 +146,51 @@ Refuses file (errors.Line number fault) = file_gives file ≡ Err (number, fault
 Refuses file errors.NotUtf8 = ¬ (IsUtf8 file)
 Refuses file errors.Memory = ⊤
 
--- ---- the users of a broker
+-- ---- logins
 
-abbrev pub login_of_entry : Entry → List ℕ × Stored
-login_of_entry entry = (entry.name, entry.stored)
+-- an entry has this name and accepts this password
+abbrev pub accepts_login : List ℕ → List ℕ → Entry → Bool
+accepts_login name password entry = bytes_eq entry.name name && accepts entry.stored password
 
-abbrev pub login_of_user : User → List ℕ × Stored
-login_of_user user = (user.name, Plain user.password)
+-- a login without a password is that of no entry
+abbrev pub is_accepted : List Entry → List ℕ → Option (List ℕ) → Bool
+is_accepted entries name None = false
+is_accepted entries name (Some password) = list_any (accepts_login name password) entries
 
--- The users have the names and the plain passwords of the entries, in order.
-abbrev pub AreUsersOf : List Entry → List User → Type 0
-AreUsersOf entries users = map login_of_entry entries ≡ map login_of_user users
+-- why entries refuse a login: it must be there, and one of them must accept it (3.1.3.4)
+abbrev pub refusal_by_entries : List Entry → Option Login → Option RefusalCode
+refusal_by_entries entries None = Some NotAuthorized
+refusal_by_entries entries (Some login) =
+    if is_accepted entries login.name login.password then None else Some BadUserNameOrPassword
+
+-- ---- the tables of a broker
+
+abbrev pub plain_with : List ℕ → Stored → List User
+plain_with name (Plain password) = record { name = name; password = password } ∷ []
+plain_with name (Sha256 salt digest) = []
+
+abbrev pub hashed_with : List ℕ → Stored → List HashedUser
+hashed_with name (Plain password) = []
+hashed_with name (Sha256 salt digest) = record { name = name; salt = salt; digest = digest } ∷ []
+
+-- the users with plain passwords, in order
+abbrev pub plain_users : List Entry → List User
+plain_users entries = flat_map (λ entry. plain_with entry.name entry.stored) entries
+
+-- the users with digests, in order
+abbrev pub hashed_users : List Entry → List HashedUser
+hashed_users entries = flat_map (λ entry. hashed_with entry.name entry.stored) entries
+
+-- The two tables have the users of the entries.
+pub record AreTablesOf (entries : List Entry) (users : List User) (hashed : List HashedUser) : Type 0 where
+  pub plain : users ≡ plain_users entries
+  pub digests : hashed ≡ hashed_users entries
+
+-- The tables are those of a file: a broker with them refuses the logins that no entry accepts.
+pub record ReadsTables (file : List ℕ) (users : List User) (hashed : List HashedUser) : Type 0 where
+  pub entries : List Entry
+  pub read : file_gives file ≡ Ok entries
+  pub refusal : (login : Option Login) → refusal_by_tables (Some users) (Some hashed) login ≡ refusal_by_entries entries login
 
 -- ---- a line that is written
 
@@ -170,3 +209,16 @@ is_field text = fits text && list_all is_field_byte text
 
 abbrev pub is_name : List ℕ → Bool
 is_name text = not (is_skipped text) && is_field text
+
+-- the stored password of a line that is written
+abbrev pub written : List ℕ → List ℕ → Stored
+written salt password = Sha256 salt (sha256 (salt ++ password))
+
+pub record PasswordLaws : Type 0 where
+  -- A broker with the tables of entries refuses the logins that no entry accepts.
+  pub exact : (entries : List Entry) (login : Option Login)
+      → refusal_by_tables (Some (plain_users entries)) (Some (hashed_users entries)) login ≡ refusal_by_entries entries login
+  -- A line that is written reads as its name, and the digest of its salt and password.
+  pub reads : (number : ℕ) (name salt password : List ℕ) → is_name name ≡ true → is_field salt ≡ true
+      → line_gives number (password_line name salt password)
+      ≡ Ok (Some (record { line = number; name = name; stored = written salt password }))

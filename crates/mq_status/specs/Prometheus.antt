@@ -98,11 +98,9 @@ abbrev pub gauges_text : Gauges → List ℕ
 gauges_text gauges =
     single_text (codes "mqtt_connections") (codes "Connections that are open.") (codes "gauge") gauges.connections
     ++ (single_text (codes "mqtt_sessions") (codes "Sessions that are stored.") (codes "gauge") gauges.sessions
-    ++ (single_text (codes "mqtt_subscriptions") (codes "Subscriptions of all sessions.") (codes "gauge") gauges.subscriptions
-    ++ (single_text (codes "mqtt_retained_messages") (codes "Retained messages.") (codes "gauge") gauges.retained)))
+    ++ single_text (codes "mqtt_retained_messages") (codes "Retained messages.") (codes "gauge") gauges.retained)
 
 abbrev pub memory_text : Gauges → List ℕ
 memory_text gauges =
     single_text (codes "mqtt_stored_messages") (codes "Messages stored in sessions.") (codes "gauge") gauges.stored_messages
-    ++ (single_text (codes "mqtt_stored_bytes") (codes "Topic and payload bytes of messages stored in sessions.") (codes "gauge") gauges.stored_bytes
-    ++ (single_text (codes "mqtt_pending_bytes") (codes "Bytes pending on connections.") (codes "gauge") gauges.pending_bytes))
+    ++ single_text (codes "mqtt_pending_bytes") (codes "Bytes pending on connections.") (codes "gauge") gauges.pending_bytes

@@ -7,7 +7,7 @@
 //! - [`request`] decides how an HTTP server for these two answers the head of a request, and
 //!   [`write_response`] writes the answer.
 //! - [`write_log`] writes one line of a log.
-//! - [`read_passwords`] reads a file of passwords, and [`password_line`] makes a line of one.
+//! - [`read_users`] reads a file of passwords, and [`password_line`] makes a line of one.
 //!
 //! A call that allocates returns a `Result`; other calls never allocate. A call that writes appends
 //! to its output, and returns the output's error.
@@ -30,8 +30,8 @@ pub use crate::log::{LogLine, log_laws, write_log};
 pub use crate::metrics::{Gauges, Metrics};
 pub use crate::page::{MAX_ROWS, RowState, SessionRow, write_page};
 pub use crate::passwords::{
-    Entry, PasswordFault, PasswordLineError, PasswordsError, Stored, password_line, plain_users,
-    read_passwords,
+    Entry, PasswordFault, PasswordLineError, PasswordsError, Stored, UserTables, password_laws,
+    password_line, read_passwords, read_users,
 };
 pub use crate::prometheus::write_prometheus;
 pub use crate::response::write_response;

@@ -18,14 +18,10 @@ pub struct Gauges {
     pub connections: u64,
     /// Sessions that are stored, of connected clients or not.
     pub sessions: u64,
-    /// Subscriptions of all sessions.
-    pub subscriptions: u64,
     /// Retained messages.
     pub retained: u64,
     /// Messages that sessions store.
     pub stored_messages: u64,
-    /// Their bytes.
-    pub stored_bytes: u64,
     /// Bytes pending on all connections.
     pub pending_bytes: u64,
 }

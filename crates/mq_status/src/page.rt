@@ -41,8 +41,8 @@ main > div { overflow-x: auto }
 
 const MESSAGES: &str = "<h2>Messages</h2>\n<table>\n<tr><th>quality of service<th>0<th>1<th>2";
 
-const SESSIONS: &str = "<h2>Sessions</h2>\n<div><table>\n<tr><th>client<th>messages<th>bytes\
-<th>pending<th>missed<th>state";
+const SESSIONS: &str = "<h2>Sessions</h2>\n<div><table>\n<tr><th>client<th>stored messages\
+<th>pending bytes<th>missed<th>state";
 
 const CLOSES: [&str; 12] = [
     "malformed packet (C1)",
@@ -101,8 +101,6 @@ pub struct SessionRow {
     pub client: Text,
     /// Messages that the session stores.
     pub stored_messages: u64,
-    /// Their bytes.
-    pub stored_bytes: u64,
     /// Bytes pending on its connection.
     pub pending_bytes: u64,
     /// Copies that the client missed.
@@ -131,11 +129,11 @@ fn write_row<W: Write>(output: &mut W, row: &SessionRow) -> io::Result<()>
         (row_text row.now)) }
 {
     let client = HtmlEscaped(row.client.as_str());
-    let (messages, bytes) = (row.stored_messages, row.stored_bytes);
-    let (pending, missed, state) = (row.pending_bytes, row.missed, row.state.word());
+    let (stored, pending) = (row.stored_messages, row.pending_bytes);
+    let (missed, state) = (row.missed, row.state.word());
     writeln!(
         output,
-        "<tr><td>{client}<td>{messages}<td>{bytes}<td>{pending}<td>{missed}<td>{state}"
+        "<tr><td>{client}<td>{stored}<td>{pending}<td>{missed}<td>{state}"
     )
 }
 
@@ -176,19 +174,15 @@ fn write_gauges<W: Write>(output: &mut W, gauges: Gauges) -> io::Result<()> {
         &[
             "connections",
             "sessions",
-            "subscriptions",
             "retained messages",
             "stored messages",
-            "stored bytes",
             "pending bytes",
         ],
         &[
             gauges.connections,
             gauges.sessions,
-            gauges.subscriptions,
             gauges.retained,
             gauges.stored_messages,
-            gauges.stored_bytes,
             gauges.pending_bytes,
         ],
     )

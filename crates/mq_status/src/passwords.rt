@@ -7,13 +7,13 @@ ghost use Rattle.std.specs.Result.{result_ok};
 ghost use Rattle.std.specs.Str.Lines.{lines};
 ghost use Rattle.hex.specs.Hex.{decode_sized};
 ghost use Rattle.sha2.specs.Sha256.{sha256};
-ghost use Rattle.mq_status.specs.Passwords.{Adds, AreUsersOf, Gives, Refuses, RefusesLine, RefusesLines, accepts, entry_of, field_in, file_gives, hash_in, is_field, is_field_byte, is_name, is_skipped, line_gives, lines_give, name_in, password_line, plain_of, stored_in};
+ghost use Rattle.mq_status.specs.Passwords.{Adds, AreTablesOf, Gives, PasswordLaws, ReadsTables, Refuses, RefusesLine, RefusesLines, accepts, entry_of, field_in, file_gives, fits, hash_in, is_field, is_field_byte, is_name, is_skipped, line_gives, lines_give, name_in, password_line, plain_of, stored_in};
 
 use bytes::Bytes;
 use hex::FromHex;
 use mq_end::BoxedList;
 use mq_packet::Binary;
-use mq_route::User;
+use mq_route::{HashedUser, User};
 use mq_wire::{Text, TextFault};
 use sha2::{Digest, Sha256};
 use simdutf8::basic::from_utf8;
@@ -38,9 +38,6 @@ pub enum PasswordFault {
     /// `sha256:` is not followed by a salt, a colon and 64 hexadecimal digits.
     #[error("a salt, a colon and 64 hexadecimal digits must follow \"sha256:\"")]
     NotHash,
-    /// The broker accepts plain passwords only.
-    #[error("the broker does not accept hashed passwords yet")]
-    Hashed,
 }
 
 /// Why a file of passwords can't be used. No password appears in the text.
@@ -306,25 +303,55 @@ pub fn read_passwords(alloc: Global, file: &[u8]) -> Result<Vec<Entry>, Password
     read_lines(alloc, lines.as_slice())
 }
 
-/// Returns the users of a broker. Error: `Line` with the fault `Hashed` at the first entry whose
-/// password is not plain. The broker compares plain passwords until its definition of a login
-/// knows hashes.
-pub fn plain_users(alloc: Global, entries: Vec<Entry>) -> Result<BoxedList<User>, PasswordsError>
-    ensures { IfOk result (AreUsersOf entries.items) }
+/// The users that may connect to a broker: its two tables.
+#[derive(Drop)]
+pub struct UserTables {
+    /// The users with plain passwords.
+    pub users: BoxedList<User>,
+    /// The users whose passwords are stored as digests.
+    pub hashed_users: BoxedList<HashedUser>,
+}
+
+// The tables with the users of the entries, in order.
+#[tactic(auto, using(crate::proofs::Logins::one_more))]
+fn tables_of(alloc: Global, entries: Vec<Entry>) -> Result<UserTables, AllocError>
+    ensures { IfOk result (λ tables.
+        AreTablesOf entries.items tables.users tables.hashed_users) }
 {
     let mut users = Vec::new(alloc);
+    let mut hashed_users = Vec::new(alloc);
     for entry in entries {
-        let Entry { line, name, stored } = entry;
-        let Stored::Plain(password) = stored else {
-            return Err(PasswordsError::Line {
-                line,
-                fault: PasswordFault::Hashed,
-            });
-        };
-        users.push(User { name, password })?;
+        let Entry { name, stored, .. } = entry;
+        match stored {
+            Stored::Plain(password) => users.push(User { name, password })?,
+            Stored::Sha256 { salt, digest } => {
+                hashed_users.push(HashedUser { name, salt, digest })?;
+            }
+        }
     }
-    Ok(BoxedList::from_vec(users))
+    Ok(UserTables {
+        users: BoxedList::from_vec(users),
+        hashed_users: BoxedList::from_vec(hashed_users),
+    })
 }
+
+/// Reads a file of passwords, as [`read_passwords`] does. Returns the tables of a broker, which
+/// accepts a login if and only if a line of the file does.
+#[tactic(auto, using(crate::proofs::Logins::read_tables))]
+pub fn read_users(alloc: Global, file: &[u8]) -> Result<UserTables, PasswordsError>
+    ensures tables { IfOk result (λ tables.
+        ReadsTables file.now tables.users tables.hashed_users) }
+    ensures refusal { IfErr result (Refuses file.now) }
+{
+    let entries = read_passwords(alloc, file)?;
+    Ok(tables_of(alloc, entries)?)
+}
+
+/// The laws of files of passwords: the tables of the entries refuse the logins that no entry
+/// accepts, and a line that [`password_line`] returns reads as its name, salt and digest.
+pub fn password_laws()
+    ensures { PasswordLaws }
+{}
 
 /// Why a line of a file of passwords can't be written.
 #[derive(Debug, Drop, Error)]
@@ -336,6 +363,9 @@ pub enum PasswordLineError {
     /// The salt has over 65,535 bytes, or has a colon or a control character.
     #[error("the salt can't stand in a file of passwords")]
     Salt,
+    /// The password has over 65,535 bytes, so no CONNECT can have it (3.1.3.5).
+    #[error("the password has over 65,535 bytes")]
+    Password,
     /// An allocation failed.
     #[error("out of memory")]
     Memory,
@@ -393,12 +423,17 @@ pub fn password_line(
     ensures name { IsErrOf result PasswordLineError.Name ↔ (is_name name.now ≡ false) }
     ensures salt { IsErrOf result PasswordLineError.Salt
         ↔ ((is_name name.now ≡ true) × (is_field salt.now ≡ false)) }
+    ensures password { IsErrOf result PasswordLineError.Password
+        ↔ ((is_name name.now ≡ true) × (is_field salt.now ≡ true) × (fits password.now ≡ false)) }
 {
     if !is_name(name) {
         return Err(PasswordLineError::Name);
     }
     if !is_field(salt) {
         return Err(PasswordLineError::Salt);
+    }
+    if password.len() > 65_535 {
+        return Err(PasswordLineError::Password);
     }
     let digest = digest_of(salt.as_bytes(), password);
     let digits = hex::encode(alloc, digest.as_slice())?;

@@ -12,10 +12,7 @@ use std::io::Write;
 
 // A sample of a family, and the value of its label.
 #[derive(Clone, Copy)]
-struct Sample {
-    label: &'static str,
-    value: u64,
-}
+struct Sample(&'static str, u64);
 
 // Writes the head of a family.
 fn write_head<W: Write>(output: &mut W, name: &str, help: &str, kind: &str) -> io::Result<()>
@@ -47,10 +44,10 @@ fn write_samples<W: Write>(
     samples: &[Sample],
 ) -> io::Result<()>
     ensures { OnOk result (Appends (W.contents output.old) (W.contents output.new)
-        (flat_map (λ s. sample_text name.now key.now s.label.now s.value) samples.now)) }
+        (flat_map (λ s. sample_text name.now key.now s.0.now s.1) samples.now)) }
 {
     for sample in samples {
-        write_sample(output, name, key, sample.label, sample.value)?;
+        write_sample(output, name, key, sample.0, sample.1)?;
     }
     Ok(())
 }
@@ -65,7 +62,7 @@ fn write_family<W: Write>(
 ) -> io::Result<()>
     ensures { OnOk result (Appends (W.contents output.old) (W.contents output.new)
         (head_text name.now help.now (codes "counter")
-        ++ flat_map (λ s. sample_text name.now key.now s.label.now s.value) samples.now)) }
+        ++ flat_map (λ s. sample_text name.now key.now s.0.now s.1) samples.now)) }
 {
     write_head(output, name, help, "counter")?;
     write_samples(output, name, key, samples)
@@ -99,18 +96,9 @@ fn write_by_qos<W: Write>(
         (by_qos_text name.now help.now counts.now place)) }
 {
     let samples = [
-        Sample {
-            label: "0",
-            value: counts[place],
-        },
-        Sample {
-            label: "1",
-            value: counts[place + 1],
-        },
-        Sample {
-            label: "2",
-            value: counts[place + 2],
-        },
+        Sample("0", counts[place]),
+        Sample("1", counts[place + 1]),
+        Sample("2", counts[place + 2]),
     ];
     write_family(output, name, help, "qos", &samples)
 }
@@ -136,14 +124,8 @@ fn write_missed<W: Write>(output: &mut W, counts: &[u64; COUNTERS]) -> io::Resul
         (missed_text counts.now)) }
 {
     let samples = [
-        Sample {
-            label: "session_full",
-            value: counts[12],
-        },
-        Sample {
-            label: "output_full",
-            value: counts[13],
-        },
+        Sample("session_full", counts[12]),
+        Sample("output_full", counts[13]),
     ];
     let (name, help) = ("mqtt_messages_missed_total", "Copies that a client missed.");
     write_family(output, name, help, "reason", &samples)
@@ -155,54 +137,18 @@ fn write_closed<W: Write>(output: &mut W, counts: &[u64; COUNTERS]) -> io::Resul
         (closed_text counts.now)) }
 {
     let samples = [
-        Sample {
-            label: "C1",
-            value: counts[14],
-        },
-        Sample {
-            label: "C2",
-            value: counts[15],
-        },
-        Sample {
-            label: "C3",
-            value: counts[16],
-        },
-        Sample {
-            label: "C4",
-            value: counts[17],
-        },
-        Sample {
-            label: "C5",
-            value: counts[18],
-        },
-        Sample {
-            label: "C6",
-            value: counts[19],
-        },
-        Sample {
-            label: "C7",
-            value: counts[20],
-        },
-        Sample {
-            label: "C8",
-            value: counts[21],
-        },
-        Sample {
-            label: "C9",
-            value: counts[22],
-        },
-        Sample {
-            label: "C10",
-            value: counts[23],
-        },
-        Sample {
-            label: "C11",
-            value: counts[24],
-        },
-        Sample {
-            label: "C12",
-            value: counts[25],
-        },
+        Sample("C1", counts[14]),
+        Sample("C2", counts[15]),
+        Sample("C3", counts[16]),
+        Sample("C4", counts[17]),
+        Sample("C5", counts[18]),
+        Sample("C6", counts[19]),
+        Sample("C7", counts[20]),
+        Sample("C8", counts[21]),
+        Sample("C9", counts[22]),
+        Sample("C10", counts[23]),
+        Sample("C11", counts[24]),
+        Sample("C12", counts[25]),
     ];
     let (name, help) = (
         "mqtt_connections_closed_total",
@@ -217,26 +163,11 @@ fn write_refused<W: Write>(output: &mut W, counts: &[u64; COUNTERS]) -> io::Resu
         (refused_text counts.now)) }
 {
     let samples = [
-        Sample {
-            label: "1",
-            value: counts[26],
-        },
-        Sample {
-            label: "2",
-            value: counts[27],
-        },
-        Sample {
-            label: "3",
-            value: counts[28],
-        },
-        Sample {
-            label: "4",
-            value: counts[29],
-        },
-        Sample {
-            label: "5",
-            value: counts[30],
-        },
+        Sample("1", counts[26]),
+        Sample("2", counts[27]),
+        Sample("3", counts[28]),
+        Sample("4", counts[29]),
+        Sample("5", counts[30]),
     ];
     let help = "CONNECT packets refused, by return code.";
     write_family(
@@ -360,14 +291,6 @@ fn write_gauges<W: Write>(output: &mut W, gauges: Gauges) -> io::Result<()>
     )?;
     let help = "Sessions that are stored.";
     write_single(output, "mqtt_sessions", help, "gauge", gauges.sessions)?;
-    let help = "Subscriptions of all sessions.";
-    write_single(
-        output,
-        "mqtt_subscriptions",
-        help,
-        "gauge",
-        gauges.subscriptions,
-    )?;
     let help = "Retained messages.";
     write_single(
         output,
@@ -390,14 +313,6 @@ fn write_memory<W: Write>(output: &mut W, gauges: Gauges) -> io::Result<()>
         help,
         "gauge",
         gauges.stored_messages,
-    )?;
-    let help = "Topic and payload bytes of messages stored in sessions.";
-    write_single(
-        output,
-        "mqtt_stored_bytes",
-        help,
-        "gauge",
-        gauges.stored_bytes,
     )?;
     let help = "Bytes pending on connections.";
     write_single(

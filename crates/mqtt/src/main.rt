@@ -5,11 +5,14 @@ use mq_cli::{
     Command, Draw, Failure, Fallible, Job, Source, WordsFault, exit_status, job, perform,
     perform_file,
 };
-use mq_programs::{run_broker_command, run_client, run_draw, run_loopback, run_serve};
+use mq_programs::{
+    run_broker_command, run_client, run_draw, run_loopback, run_password, run_serve,
+};
 use std::fs::File;
 use std::io::{BufReader, BufWriter, Input, Write};
 use std::net::{Net, TcpListener, TcpStream};
 use std::process::ExitCode;
+use std::random::RandomSource;
 use std::rt::Files;
 use std::sync::Wait;
 use std::thread::Threads;
@@ -74,6 +77,7 @@ where
         + Threads
         + Wait
         + Clock
+        + RandomSource
         + Sync,
 {
     let alloc = rt.alloc();
@@ -85,7 +89,12 @@ where
             run_serve(host, alloc, &words, &mut rt.stderr(), &mut io::writer(rt))
         }
         Ok(Command::Broker(words)) => {
-            run_broker_command(host, alloc, &words, &mut io::writer(rt), rt.stderr())
+            let (output, errors) = (&mut io::writer(rt), rt.stderr());
+            Ok(run_broker_command(host, alloc, &words, output, errors))
+        }
+        Ok(Command::Password(name)) => {
+            let (input, errors) = (&mut rt.reader(), &mut rt.stderr());
+            run_password(host, alloc, name, input, errors, &mut io::writer(rt))
         }
         Ok(Command::Loopback(source)) => run_looped(rt, host, source),
         Ok(Command::Draw(draw)) => run_drawn(rt, draw),

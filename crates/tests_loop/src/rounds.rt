@@ -3,6 +3,7 @@
 use crate::packets::{CONNACK, DISCONNECT, SUBACK, connect, publish, subscribe};
 use crate::wires::{Pipe, Wire, cell_of};
 use mq_decode::Limits;
+use mq_hub::Hub;
 use mq_loop::{EventLoop, LoopLimits, NoObserver, NonBlocking, Report};
 use mq_route::{HubConfig, WhenFull};
 use std::alloc::{AllocError, Global};
@@ -10,7 +11,7 @@ use std::cell::RefCell;
 use std::io::ErrorKind;
 use std::test::Fail;
 
-type Loop<'a> = EventLoop<NonBlocking<Wire<'a>>, NoObserver>;
+type Loop<'a> = EventLoop<Hub, NonBlocking<Wire<'a>>, NoObserver>;
 
 fn new_loop<'a>(alloc: Global, most_owed: usize) -> Result<Loop<'a>, Fail> {
     let packets = Limits::new(1_048_576).ok_or("no limits")?;
@@ -55,7 +56,7 @@ fn run(alloc: Global, connections: &mut Loop<'_>, places: u32, rounds: u64) -> R
         for place in 0..places {
             connections.notice(place, false);
         }
-        connections.round(nth, buffer.as_mut_slice());
+        connections.round(nth, buffer.as_mut_slice())?;
     }
     Ok(())
 }
@@ -314,7 +315,7 @@ fn run_newest_first<'a>(
         connections.notice(new, false);
         connections.notice(old, true);
         connections.notice(0, false);
-        connections.round(nth * 10, buffer.as_mut_slice());
+        connections.round(nth * 10, buffer.as_mut_slice())?;
     }
     Ok(())
 }

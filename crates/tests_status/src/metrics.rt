@@ -17,18 +17,12 @@ mqtt_connections 7
 # HELP mqtt_sessions Sessions that are stored.
 # TYPE mqtt_sessions gauge
 mqtt_sessions 8
-# HELP mqtt_subscriptions Subscriptions of all sessions.
-# TYPE mqtt_subscriptions gauge
-mqtt_subscriptions 9
 # HELP mqtt_retained_messages Retained messages.
 # TYPE mqtt_retained_messages gauge
 mqtt_retained_messages 10
 # HELP mqtt_stored_messages Messages stored in sessions.
 # TYPE mqtt_stored_messages gauge
 mqtt_stored_messages 11
-# HELP mqtt_stored_bytes Topic and payload bytes of messages stored in sessions.
-# TYPE mqtt_stored_bytes gauge
-mqtt_stored_bytes 12
 # HELP mqtt_pending_bytes Bytes pending on connections.
 # TYPE mqtt_pending_bytes gauge
 mqtt_pending_bytes 18446744073709551615
@@ -153,10 +147,8 @@ fn counted(alloc: Global) -> Result<Metrics, Fail> {
     metrics.set_gauges(Gauges {
         connections: 7,
         sessions: 8,
-        subscriptions: 9,
         retained: 10,
         stored_messages: 11,
-        stored_bytes: 12,
         pending_bytes: u64::MAX,
     });
     metrics.add(Counter::Missed(MissReason::SessionFull), 5);

@@ -34,7 +34,6 @@ fn row(alloc: Global, client: &str, state: RowState) -> Result<SessionRow, Fail>
     Ok(SessionRow {
         client: Text::new(alloc, client)?,
         stored_messages: 3,
-        stored_bytes: 400,
         pending_bytes: 50,
         missed: 6,
         state,
@@ -61,8 +60,8 @@ fn rows(rt: HostRuntime) -> Result<(), Fail> {
     drop(rows);
     assert_eq!(rt;
         shown.as_str(),
-        "<tr><td>&lt;/table&gt;&lt;<td>3<td>400<td>50<td>6<td>full\n\
-        <tr><td>b<td>3<td>400<td>50<td>6<td>slow\n"
+        "<tr><td>&lt;/table&gt;&lt;<td>3<td>50<td>6<td>full\n\
+        <tr><td>b<td>3<td>50<td>6<td>slow\n"
     );
     Ok(())
 }

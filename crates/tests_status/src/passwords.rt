@@ -4,7 +4,7 @@ use crate::texts::text_of;
 use mq_end::CloseReason;
 use mq_packet::RefusalCode;
 use mq_route::HubClose;
-use mq_status::{Entry, LogLine, password_line, plain_users, read_passwords, write_log};
+use mq_status::{LogLine, password_line, read_passwords, read_users, write_log};
 use std::alloc::Global;
 use std::process::Abort;
 use std::test::Fail;
@@ -64,37 +64,46 @@ fn files(rt: HostRuntime) -> Result<(), Fail> {
     Ok(())
 }
 
-// The users of a file: their names and passwords.
-fn users_of(alloc: Global, file: &[u8]) -> Result<String, Fail> {
-    match plain_users(alloc, read_passwords(alloc, file)?) {
-        Ok(users) => {
-            let mut text = String::new(alloc);
-            for user in users.as_slice() {
-                let (name, password) = (user.name.as_str(), user.password.as_slice());
-                write!(text, "{name} {password:?};")?;
-            }
-            Ok(text)
-        }
-        Err(error) => Ok(format!(in alloc; "{error}")?),
+// The tables of a file: names and passwords, then names, salts and first bytes of digests.
+fn tables_of(alloc: Global, file: &[u8]) -> Result<String, Fail> {
+    let tables = match read_users(alloc, file) {
+        Ok(tables) => tables,
+        Err(error) => return Ok(format!(in alloc; "{error}")?),
+    };
+    let mut text = String::new(alloc);
+    for user in tables.users.as_slice() {
+        let (name, password) = (user.name.as_str(), user.password.as_slice());
+        write!(text, "{name} {password:?};")?;
     }
+    for user in tables.hashed_users.as_slice() {
+        let (name, salt, first) = (user.name.as_str(), user.salt.as_slice(), user.digest[0]);
+        write!(text, "{name} {salt:?} {first:x};")?;
+    }
+    Ok(text)
 }
 
 #[test]
-fn users(rt: HostRuntime) -> Result<(), Fail> {
+fn tables(rt: HostRuntime) -> Result<(), Fail> {
     let alloc = rt.alloc();
-    let users = users_of(alloc, b"a:x\nb:yz\n")?;
-    assert_eq!(rt; users.as_str(), "a [120];b [121, 122];");
-    let users = users_of(alloc, HASHED.as_bytes())?;
-    assert_eq!(rt;
-        users.as_str(),
-        "line 1: the broker does not accept hashed passwords yet"
-    );
+    let file = format!(in alloc; "a:x\n{HASHED}\nc:yz\n")?;
+    let rows = [
+        (
+            file.as_str(),
+            "a [120];c [121, 122];b [115, 97, 108, 116] be;",
+        ),
+        ("", ""),
+        ("a:x\nb", "line 2: no colon follows the name"),
+    ];
+    for (file, expected) in &rows {
+        let tables = tables_of(alloc, file.as_bytes())?;
+        assert_eq!(rt; tables.as_str(), *expected);
+    }
     Ok(())
 }
 
-// The line of a name, a salt and `secret`, or the error.
-fn line_of(alloc: Global, name: &str, salt: &str) -> Result<String, Fail> {
-    match password_line(alloc, name, salt, b"secret") {
+// The line of a name, a salt and a password, or the error.
+fn line_of(alloc: Global, name: &str, salt: &str, password: &[u8]) -> Result<String, Fail> {
+    match password_line(alloc, name, salt, password) {
         Ok(line) => Ok(line),
         Err(error) => Ok(format!(in alloc; "{error}")?),
     }
@@ -115,9 +124,12 @@ fn lines(rt: HostRuntime) -> Result<(), Fail> {
         ("b", "sa:lt", "the salt can't stand in a file of passwords"),
     ];
     for (name, salt, expected) in &rows {
-        let line = line_of(rt.alloc(), *name, *salt)?;
+        let line = line_of(rt.alloc(), *name, *salt, b"secret")?;
         assert_eq!(rt; line.as_str(), *expected);
     }
+    let long = vec![in rt.alloc(); b'x'; 65_536]?;
+    let line = line_of(rt.alloc(), "b", "salt", long.as_slice())?;
+    assert_eq!(rt; line.as_str(), "the password has over 65,535 bytes");
     Ok(())
 }
 
@@ -128,29 +140,29 @@ fn logged(alloc: Global, line: LogLine) -> Result<String, Fail> {
     text_of(alloc, out.as_slice())
 }
 
+// Fails unless each line of the log is the expected one.
+fn expect_lines(alloc: Global, rows: &[(LogLine<'_>, &str)]) -> Result<(), Fail> {
+    for (line, expected) in rows {
+        let text = logged(alloc, *line)?;
+        if text.as_str() != *expected {
+            return Err(Fail::new(text.as_str()));
+        }
+    }
+    Ok(())
+}
+
 #[test]
-fn log_lines(rt: HostRuntime) -> Result<(), Fail> {
-    let alloc = rt.alloc();
-    let client = "a\nclosed client=b";
-    let address = "127.0.0.1:5";
+fn lines_about_clients(rt: HostRuntime) -> Result<(), Fail> {
+    let (client, address) = ("a\nclosed client=b", "127.0.0.1:5");
+    let reason = HubClose::Own(CloseReason::KeepAlive);
     let rows = [
         (
             LogLine::Connected { client, address },
             "connected client=a%0aclosed%20client=b address=127.0.0.1:5\n",
         ),
         (
-            LogLine::ClosedEarly {
-                address,
-                reason: HubClose::PeerEnded,
-            },
-            "closed address=127.0.0.1:5 code=C10 reason=\"connection ended by peer\"\n",
-        ),
-        (
-            LogLine::Closed {
-                client: "c",
-                reason: HubClose::Own(CloseReason::KeepAlive),
-            },
-            "closed client=c code=C5 reason=\"keep-alive expired\"\n",
+            LogLine::Closed { client, reason },
+            "closed client=a%0aclosed%20client=b code=C5 reason=\"keep-alive expired\"\n",
         ),
         (
             LogLine::SessionEnded {
@@ -166,13 +178,6 @@ fn log_lines(rt: HostRuntime) -> Result<(), Fail> {
             "missed client=c messages=12\n",
         ),
         (
-            LogLine::Refused {
-                address,
-                code: RefusalCode::NotAuthorized,
-            },
-            "refused address=127.0.0.1:5 code=5 reason=\"not authorized\"\n",
-        ),
-        (
             LogLine::Slow {
                 client: "c",
                 pending: 99,
@@ -180,9 +185,22 @@ fn log_lines(rt: HostRuntime) -> Result<(), Fail> {
             "slow client=c pending=99\n",
         ),
     ];
-    for (line, expected) in &rows {
-        let text = logged(alloc, *line)?;
-        assert_eq!(rt; text.as_str(), *expected);
-    }
-    Ok(())
+    expect_lines(rt.alloc(), &rows)
+}
+
+#[test]
+fn lines_about_addresses(rt: HostRuntime) -> Result<(), Fail> {
+    let address = "127.0.0.1:5";
+    let (reason, code) = (HubClose::PeerEnded, RefusalCode::NotAuthorized);
+    let rows = [
+        (
+            LogLine::ClosedEarly { address, reason },
+            "closed address=127.0.0.1:5 code=C10 reason=\"connection ended by peer\"\n",
+        ),
+        (
+            LogLine::Refused { address, code },
+            "refused address=127.0.0.1:5 code=5 reason=\"not authorized\"\n",
+        ),
+    ];
+    expect_lines(rt.alloc(), &rows)
 }

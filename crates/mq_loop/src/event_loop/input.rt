@@ -2,6 +2,7 @@
 
 ghost use Rattle.std.specs.Prelude.{◌≡◌};
 
+use crate::broker::Broker;
 use crate::event_loop::{EventLoop, Turn};
 use crate::observer::Observer;
 use crate::reading::Reading;
@@ -26,10 +27,10 @@ const LARGE_READ: usize = 16_384;
 /// The part of a connection's share that an act uses, in bytes.
 const ACT: usize = 16;
 
-impl<S: Socket + Drop, O: Observer + Drop> EventLoop<S, O> {
+impl<B: Broker + Drop, S: Socket + Drop, O: Observer + Drop> EventLoop<B, S, O> {
     // Reads from each connection that is ready, oldest first.
     pub(super) fn hear_all(&mut self, buffer: &mut [u8])
-        ensures { self.new.served.base ≡ self.old.served.base }
+        ensures { self.new.watched.served.base ≡ self.old.watched.served.base }
     {
         self.held_after = u64::MAX;
         self.hung_up_after = u64::MAX;
@@ -131,7 +132,7 @@ impl<S: Socket + Drop, O: Observer + Drop> EventLoop<S, O> {
     // Reads from a connection until it has nothing more or has used its share. Reads nothing while
     // its output is blocked.
     fn hear(&mut self, turn: Turn, buffer: &mut [u8])
-        ensures { self.new.served.base ≡ self.old.served.base }
+        ensures { self.new.watched.served.base ≡ self.old.watched.served.base }
     {
         let place = turn.place;
         if !self.take_turn(turn) || !self.watched.notes().is_open(place) {
@@ -160,7 +161,7 @@ impl<S: Socket + Drop, O: Observer + Drop> EventLoop<S, O> {
     // Reads once. Returns how much of the share was used, or `None` if nothing more is to be read
     // now.
     fn hear_once(&mut self, place: u32, buffer: &mut [u8]) -> Option<usize>
-        ensures { self.new.served.base ≡ self.old.served.base }
+        ensures { self.new.watched.served.base ≡ self.old.watched.served.base }
     {
         if !self.watched.notes().may_read(place) {
             return None;

@@ -5,8 +5,11 @@ use Rattle.mq_cli.proofs.grammar.command_line.Goals as goal
 
 pub returns : goal.returns
 returns c =
+    let hashes = word_words (codes "password") (codes "NAME") in
     let loops = word_words (codes "loopback") (codes "FILE") in
     let served : app_of c.in_ok-line-2.line ≡ with_subcommand socket_words broker_words.top =
     c.in_ok-line-2.ensures broker_words c.broker_command.ensures.words ∙ ap (λ (a : App). with_subcommand a broker_words.top) c.in_ok-line.ensures in
-    subst (λ (a : App). IfOk c.with_command-2.result (λ new. app_of new ≡ with_subcommand a loops.top)) served
-    (c.with_command-2.ensures loops c.loopback_command.ensures.words)
+    let hashed : app_of c.in_ok-line-3.line ≡ with_subcommand (with_subcommand socket_words broker_words.top) hashes.top =
+    c.in_ok-line-3.ensures hashes c.password_command.ensures.words ∙ ap (λ (a : App). with_subcommand a hashes.top) served in
+    subst (λ (a : App). IfOk c.with_command-3.result (λ new. app_of new ≡ with_subcommand a loops.top)) hashed
+    (c.with_command-3.ensures loops c.loopback_command.ensures.words)

@@ -1,4 +1,4 @@
-use Rattle.std.proofs.Common.{◌≡◌}
+use Rattle.std.proofs.Common.{◌≡◌, true}
 use Rattle.mq_loop.specs.Places.{count_in}
 use Rattle.mq_loop.specs.Rounds.{connections_in}
 use Rattle.mq_loop.proofs.watched.Watched.give_all.Given as goal
@@ -6,6 +6,7 @@ use Rattle.mq_loop.proofs.watched.Watched.give_all.Given as goal
 abbrev pub invariant-loop : goal.invariant-loop
 invariant-loop g l = record {
   connections : connections_in l.self.served.lines ≡ connections_in l.initial.self.served.lines;
+  committed : l.self.served.committed ≡ true;
   base : l.self.served.base ≡ l.initial.self.served.base;
 }
 

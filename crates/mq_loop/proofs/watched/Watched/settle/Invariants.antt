@@ -1,10 +1,11 @@
-use Rattle.std.proofs.Common.{◌≡◌}
+use Rattle.std.proofs.Common.{◌≡◌, true}
 use Rattle.mq_loop.specs.Rounds.{IsEmpty, connections_in}
 use Rattle.mq_loop.proofs.watched.Watched.settle.Given as goal
 
 abbrev pub invariant-loop-self : goal.invariant-loop-self
 invariant-loop-self g l = record {
   marked : IsEmpty l.self.marked;
+  committed : l.self.served.committed ≡ true;
   base : l.self.served.base ≡ l.fn.self.served.base;
 }
 

@@ -1,4 +1,3 @@
-use Rattle.std.proofs.Common.{replicate, get_or}
 use Rattle.std.proofs.lemmas.List.{get_or-replicate}
 use Rattle.mq_status.specs.Counting.{place}
 use Rattle.mq_status.proofs.Growing.{place_low}

@@ -1,0 +1,80 @@
+//! Brokers of a loop, whose steps are committed before their output is collected.
+
+ghost use Rattle.std.specs.Prelude.{◌≡◌, Bool, true, IfOk, OnErr, OnOk};
+ghost use Rattle.mq_route.specs.declared.event.HubEvent.TheVariants.{Collect};
+ghost use Rattle.mq_route.specs.Hub.{HubState};
+ghost use Rattle.mq_route.specs.Step.{HubStep};
+ghost use Rattle.mq_route.specs.StepSome.{HubStepSome};
+ghost use Rattle.mq_loop.specs.Brokers.{is_input};
+
+use mq_hub::Hub;
+use mq_route::{Conn, HubEvent, HubRefusal, HubReply};
+use thiserror::Error;
+
+/// Why the steps of a broker were not committed.
+#[derive(Clone, Copy, Debug, PartialEq, Eq, Error)]
+pub enum CommitFailure {
+    /// An allocation failed.
+    #[error("out of memory")]
+    Memory,
+    /// The storage of the broker failed.
+    #[error("the storage failed")]
+    Storage,
+    /// The storage of the broker is full.
+    #[error("the storage is full")]
+    Full,
+}
+
+/// A broker whose steps are committed before their output is collected.
+///
+/// A commit makes all steps durable, if the broker has a storage. Contracts see the broker's state,
+/// whether all its steps are committed, and whether a commit can fail.
+pub trait Broker {
+    /// The state of the broker.
+    ghost state: { Self → HubState };
+
+    /// Whether all steps are committed.
+    ghost committed: { Self → Bool };
+
+    /// Whether a commit can fail.
+    ghost can_fail: { Bool };
+
+    /// The broker without its storage.
+    fn hub(&self) -> &Hub
+        ensures { result.now ≡ state self.now };
+
+    /// Makes the step for an event. Use [`collect`](Broker::collect) for `Collect`.
+    ///
+    /// Errors are those of `Hub::step`, and `Memory` if the broker can't note the event.
+    fn step(&mut self, event: &HubEvent) -> Result<HubReply, HubRefusal>
+        requires input { is_input event.now ≡ true }
+        ensures step { IfOk result (λ reply. HubStep (state self.old) event.now reply (state self.new)) }
+        ensures err { OnErr result (state self.new ≡ state self.old) }
+        ensures uncommitted { OnErr result (committed self.new ≡ committed self.old) };
+
+    /// Makes the step for the front of bytes that come on a connection. Returns the reply and the
+    /// number of bytes used.
+    ///
+    /// Errors are those of `Hub::step_some`, and `Memory` if the broker can't note the event.
+    fn step_some(
+        &mut self,
+        conn: Conn,
+        piece: &[u8],
+        most_acts: usize,
+    ) -> Result<(HubReply, usize), HubRefusal>
+        ensures step { IfOk result (λ r. HubStepSome (state self.old) conn piece.now most_acts r.0 r.1 (state self.new)) }
+        ensures err { OnErr result (state self.new ≡ state self.old) };
+
+    /// Takes the pending output of a connection. All steps must be committed.
+    fn collect(&mut self, conn: Conn) -> Result<HubReply, HubRefusal>
+        requires committed { committed self.old ≡ true }
+        ensures step { IfOk result (λ reply. HubStep (state self.old) (Collect conn) reply (state self.new)) }
+        ensures err { OnErr result (state self.new ≡ state self.old) }
+        ensures still { committed self.new ≡ committed self.old };
+
+    /// Commits all steps. After an error the program must end.
+    fn commit(&mut self) -> Result<(), CommitFailure>
+        ensures ok { OnOk result (committed self.new ≡ true) }
+        ensures state { state self.new ≡ state self.old }
+        ensures sure { OnErr result (can_fail ≡ true) };
+}
