@@ -77,8 +77,6 @@ impl From<AllocError> for BrokerEnd {
 }
 
 impl From<CommitFailure> for BrokerEnd {
-    ghost use Rattle.std.specs.Prelude.{Unit};
-
     ghost from_gives = { λ _ _. Unit {0} };
 
     fn from(failure: CommitFailure) -> BrokerEnd {
