@@ -69,6 +69,7 @@ impl Broker for Fragile<'_> {
 
 type Loop<'a> = EventLoop<Fragile<'a>, NonBlocking<Wire<'a>>, NoObserver>;
 
+#[tactic(auto, using(crate::proofs::Begins::hub_reached))]
 fn new_loop<'a>(alloc: Global, commits: u32, early: &'a Cell<u32>) -> Result<Loop<'a>, Fail> {
     let packets = Limits::new(1_048_576).ok_or("no limits")?;
     let config = HubConfig {
