@@ -1,5 +1,5 @@
 -- The packets printed from a reader.
-use Rattle.std.proofs.Common.{◌≡◌, ℕ, ◌+◌, ◌^◌, ◌≤◌, ◌<◌, Bool, true, false, ◌==◌, if◌then◌else◌, List, [], ◌∷◌, ◌++◌, length, drop, flat_map, Option, Some, None, Result, Ok, Err, refl, sym, ap, subst, ◌∙◌, append_assoc, inl, inr, arith}
+use Rattle.std.proofs.Common.{◌≡◌, ℕ, ◌+◌, ◌^◌, ◌≤◌, Bool, false, ◌==◌, List, [], ◌∷◌, ◌++◌, length, drop, flat_map, Option, Some, None, Result, Ok, Err, refl, sym, ap, subst, ◌∙◌, append_assoc, inl, inr, arith}
 use Rattle.std.specs.Prelude.{IfOk, IfSome, OnOk}
 use Rattle.std.specs.Io.KnownBytes.{Appends, Consumes, IsAtEnd}
 use Rattle.std.proofs.KnownBytes.{Appends-trans}
@@ -13,7 +13,7 @@ use Rattle.mq_decode.specs.Grammar.{Reading, Stream}
 use Rattle.mq_decode.proofs.Streams.{faulty_more, stream_join}
 use Rattle.mq_line.specs.Lines.{Prints}
 use Rattle.mq_cli.specs.declared.stream.StreamEnd.{StreamEnd}
-use Rattle.mq_cli.specs.declared.stream.StreamEnd.TheVariants.{Whole, Held, Fault}
+use Rattle.mq_cli.specs.declared.stream.StreamEnd.TheVariants.{Fault}
 use Rattle.mq_cli.specs.Printed.{end_lines, fault_line, packet_line, shown_lines}
 use Rattle.mq_cli.specs.Show.{AreFirst, Reads}
 use Rattle.mq_cli.specs.Stops.{IsTooLong}

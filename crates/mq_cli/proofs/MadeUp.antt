@@ -1,5 +1,5 @@
 -- The lines of events that are generated.
-use Rattle.std.proofs.Common.{◌≡◌, ℕ, zero, suc, ◌+◌, ◌-◌, ◌/◌, ◌^◌, ◌%◌, ◌<◌, ◌≤◌, Bool, true, false, ◌==◌, nat_lt, if◌then◌else◌, List, [], ◌∷◌, ◌++◌, map, flat_map, Option, Some, None, refl, sym, ap, subst, ◌∙◌, append_assoc, add-one, arith}
+use Rattle.std.proofs.Common.{◌≡◌, ℕ, zero, suc, ◌+◌, ◌-◌, ◌/◌, ◌%◌, ◌<◌, ◌≤◌, Bool, true, false, ◌==◌, nat_lt, if◌then◌else◌, List, [], ◌∷◌, ◌++◌, map, flat_map, Option, refl, sym, ap, subst, ◌∙◌, append_assoc, add-one, arith}
 use Rattle.std.specs.Prelude.{codes, decimal}
 use Rattle.std.specs.Int.{w32, to_be_bytes}
 use Rattle.std.specs.Int.NonZero.{non_zero_u16_get}
@@ -19,9 +19,8 @@ use Rattle.mq_topic.specs.Topic.{IsTopicName}
 use Rattle.mq_world.specs.declared.event.Event.{Event as WorldEvent}
 use Rattle.mq_world.specs.declared.event.Event.TheVariants as events
 use Rattle.mq_world.specs.declared.side.Side.{Side}
-use Rattle.mq_world.specs.MadeUp.{event_of_kind, made_event, made_from, made_message, made_qos, made_side, made_up}
+use Rattle.mq_world.specs.MadeUp.{made_event, made_from, made_message, made_qos, made_side, made_up}
 use Rattle.mq_schedule.specs.declared.schedule.Schedule.{Schedule}
-use Rattle.mq_schedule.specs.declared.schedule.Step.{Step}
 use Rattle.mq_schedule.specs.declared.schedule.Step.TheVariants.{Event, Settle}
 use Rattle.mq_schedule.specs.Laws.{ScheduleLaws}
 use Rattle.mq_schedule.specs.Parts.{KeepsBounds}

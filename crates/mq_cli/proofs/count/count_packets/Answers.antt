@@ -1,4 +1,4 @@
-use Rattle.std.proofs.Common.{◌≡◌, ◌+◌, ◌-◌, ◌∙◌, Some, None, refl, arith}
+use Rattle.std.proofs.Common.{◌+◌, ◌-◌, ◌∙◌, None, refl, arith}
 use Rattle.mq_cli.proofs.Counting.{fault_counted, few_counted, more_bytes, more_counted, none_counted, rest_counted}
 use Rattle.mq_cli.proofs.InTurn.{too_long}
 use Rattle.mq_cli.proofs.count.count_packets.Goals as goal

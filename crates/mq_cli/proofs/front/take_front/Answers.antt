@@ -1,4 +1,4 @@
-use Rattle.std.proofs.Common.{◌≡◌, List, ℕ, ◌≤◌, length, sym, subst}
+use Rattle.std.proofs.Common.{List, ℕ, ◌≤◌, sym, subst}
 use Rattle.mq_cli.specs.Show.{Reads}
 use Rattle.mq_cli.proofs.front.take_front.Goals as goal
 

@@ -1,4 +1,4 @@
-use Rattle.std.proofs.Common.{ℕ, List, refl, sym, subst, inl, inr}
+use Rattle.std.proofs.Common.{ℕ, List, refl, subst, inl, inr}
 use Rattle.std.specs.Prelude.{IsUtf8}
 use Rattle.mq_cli.specs.Printed.{file_not_read}
 use Rattle.mq_cli.specs.Status.{IsReplayDone}

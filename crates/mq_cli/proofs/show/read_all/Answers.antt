@@ -1,4 +1,4 @@
-use Rattle.std.proofs.Common.{◌≡◌, length, Some, None, arith, sym, refl}
+use Rattle.std.proofs.Common.{Some, None, arith, sym, refl}
 use Rattle.mq_cli.proofs.Pieces.{same_reading, reads_piece, no_rest}
 use Rattle.mq_cli.proofs.show.read_all.Goals as goal
 use Rattle.mq_cli.proofs.show.read_all.Goals.{in-Ok-eq0, in-Ok, in-Err-Fault}
