@@ -80,6 +80,7 @@ pub(crate) fn broker(alloc: Global) -> anyhow::Result<Hub> {
         hashed_users: None,
         when_full: WhenFull::ClosePublisher,
         connect_within: None,
+        session_expiry: None,
     };
     Ok(Hub::new(alloc, config))
 }

@@ -66,5 +66,6 @@ pub(crate) fn config() -> Result<HubConfig, Fail>
         hashed_users: None,
         when_full: WhenFull::ClosePublisher,
         connect_within: None,
+        session_expiry: None,
     })
 }

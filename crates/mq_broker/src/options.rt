@@ -51,6 +51,7 @@ impl BrokerOptions {
             hashed_users: None,
             when_full: WhenFull::DropCopy,
             connect_within: None,
+            session_expiry: None,
         }
     }
 }

@@ -62,6 +62,7 @@ fn config() -> Result<HubConfig, Fail>
         hashed_users: None,
         when_full: WhenFull::ClosePublisher,
         connect_within: None,
+        session_expiry: None,
     })
 }
 

@@ -57,3 +57,5 @@ pub mod LateWalk
 pub mod RunLemmas
 pub mod PendingBytes
 pub mod MissedCopies
+pub mod DisconnectTimes
+pub mod ExpiredSessions

@@ -19,7 +19,7 @@ use Rattle.mq_route.specs.declared.connection_state.ConnectionState.{ConnectionS
 use Rattle.mq_route.specs.declared.connection_state.ConnectionState.TheVariants.{AwaitingConnect}
 use Rattle.mq_route.specs.Hub.{HubState, HubConnection, is_clean, is_connection, key_of, key_on, stage_of, up_on, with_connection}
 use Rattle.mq_route.specs.Routed.{same_conn}
-use Rattle.mq_route.specs.Work.{Work, close, last_will}
+use Rattle.mq_route.specs.Work.{Work, last_will, shut_down}
 use Rattle.mq_hub.specs.declared.sessions.session.BrokerSession.{BrokerSession}
 use Rattle.mq_hub.specs.Inside.Refinement.{Refines}
 use Rattle.mq_hub.specs.Inside.Invariant.{HubInvariant, IsWillWithin}
@@ -199,7 +199,7 @@ pub proceeds_closed : (policy : WhenFull) (k : Conn) (why : HubClose) (key : ℕ
     → will ≡ will_left why (stage_of k t.connections.connections) → Proceeds policy (λ fits. parts k why key (is_clean (stage_of k t.connections.connections))) t did v mid
     → ((config : HubConfig) (clock next : ℕ) → HubInvariant config next v → config.when_full ≡ policy
     → (fits : Bool) × Refines (last_will key will fits) (hub_of config clock next v) mid (hub_of config clock next u) says)
-    → Spares v u → Proceeds policy (close k why) t did u says
+    → Spares v u → Proceeds policy (shut_down k why) t did u says
 proceeds_closed policy k why key will t v u did mid says up is first last spares =
     let ts = t.sessions.list in
     let xs = t.connections.connections in

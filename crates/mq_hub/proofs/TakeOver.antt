@@ -16,6 +16,7 @@ use Rattle.mq_route.specs.Hub.{HubState, is_clean, stage_of, up_on, with_connect
 use Rattle.mq_route.specs.Welcome.{ends_on, ends_with}
 use Rattle.mq_route.specs.Work.{Work, close, remove, remove_if}
 use Rattle.mq_hub.specs.declared.sessions.session.BrokerSession.{BrokerSession}
+use Rattle.mq_hub.specs.Inside.Close.{close_at}
 use Rattle.mq_hub.specs.Inside.Refinement.{Refines}
 use Rattle.mq_hub.specs.Inside.Invariant.{HubInvariant, IsWillWithin}
 use Rattle.mq_hub.specs.Inside.TableSteps.{Proceeds}
@@ -37,9 +38,13 @@ use Rattle.mq_hub.proofs.TableView.{hub_same}
 abbrev pub over_by : Conn → ℕ → Bool → Bool → Work → Work
 over_by k key ends fits w = remove_if (not ends) key (close k TakenOver fits w)
 
-module _ (policy : WhenFull) (k : Conn) (key : ℕ) (t v : HubTables) (did mid : List Act) (first : Proceeds policy (close k TakenOver) t did v mid) where
-  pub over_with : is_clean (stage_of k t.connections.connections) ≡ true → Proceeds policy (over_by k key (is_clean (stage_of k t.connections.connections))) t did v mid
-  over_with ends = subst (λ (b : Bool). Proceeds policy (over_by k key b) t did v mid) (sym ends) (record {
+-- the same, where the session stores this time
+abbrev pub over_at : ℕ → Conn → ℕ → Bool → Bool → Work → Work
+over_at now k key ends fits w = remove_if (not ends) key (close_at now k TakenOver fits w)
+
+module _ (policy : WhenFull) (now : ℕ) (k : Conn) (key : ℕ) (t v : HubTables) (did mid : List Act) (first : Proceeds policy (close_at now k TakenOver) t did v mid) where
+  pub over_with : is_clean (stage_of k t.connections.connections) ≡ true → Proceeds policy (over_at now k key (is_clean (stage_of k t.connections.connections))) t did v mid
+  over_with ends = subst (λ (b : Bool). Proceeds policy (over_at now k key b) t did v mid) (sym ends) (record {
     goes = first.goes;
     keeps = first.keeps;
     room = first.room;
@@ -50,12 +55,12 @@ module _ (policy : WhenFull) (k : Conn) (key : ℕ) (t v : HubTables) (did mid :
   pub over_after : (u : HubTables) (says : List Act) → is_clean (stage_of k t.connections.connections) ≡ false → up_on key v.connections.connections ≡ None
       → u.rows ≡ without_client key v.rows → u.sessions.list ≡ without_key key v.sessions.list → v.sessions.room ≤ u.sessions.room
       → u ≡ record v { rows = u.rows; sessions = u.sessions } → says ≡ mid ++ acts.Removed key ∷ []
-      → Proceeds policy (over_by k key (is_clean (stage_of k t.connections.connections))) t did u says
+      → Proceeds policy (over_at now k key (is_clean (stage_of k t.connections.connections))) t did u says
   over_after u says lasts none rows list more rest said =
       let retained = ap (λ (a : HubTables). a.retained.messages) rest in
       let connections = ap (λ (a : HubTables). a.connections.connections) rest in
       let limits = ap (λ (a : HubTables). a.connections.limits) rest in
-      subst (λ (b : Bool). Proceeds policy (over_by k key b) t did u says) (sym lasts) (record {
+      subst (λ (b : Bool). Proceeds policy (over_at now k key b) t did u says) (sym lasts) (record {
         goes = λ config clock next kept same.
             let h : HubState = hub_of config clock next t in
             let g : HubState = hub_of config clock next v in
@@ -63,7 +68,7 @@ module _ (policy : WhenFull) (k : Conn) (key : ℕ) (t v : HubTables) (did mid :
             let p = first.goes config clock next kept same in
             let left = first.keeps config next kept in (
               p.0,
-              goes_then (close k TakenOver p.0) (remove key) h g i did mid says p.1
+              goes_then (close_at now k TakenOver p.0) (remove key) h g i did mid says p.1
                   (goes_removed key g i mid says (hub_removed key config next v u left none rows retained list connections clock) said),
             );
         keeps = λ config next kept. kept_removed key config next v u (first.keeps config next kept) none rows retained list connections limits;

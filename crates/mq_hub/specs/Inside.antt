@@ -7,6 +7,7 @@ pub mod ConnectChecks
 pub mod ConnectRoom
 pub mod Connections
 pub mod DeliveryPlan
+pub mod Expiry
 pub mod Settlement
 pub mod Input
 pub mod Invariant

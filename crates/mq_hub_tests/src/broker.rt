@@ -3,7 +3,7 @@
 ghost use Rattle.std.specs.Prelude.{◌≡◌, ◌<◌, None, IfOk};
 
 use crate::told::{Happens, Row, all_told, counted, event, listed, told};
-use crate::{dropping, rows, silent};
+use crate::{dropping, expiring, rows, silent};
 use bytes::Bytes;
 use mq_decode::Limits;
 use mq_end::BoxedList;
@@ -34,6 +34,8 @@ pub(crate) struct Kind {
     pub(crate) when_full: WhenFull,
     /// The time in milliseconds within which CONNECT must arrive.
     pub(crate) connect_within: Option<u64>,
+    /// The time in milliseconds after which the session of an absent client ends.
+    pub(crate) session_expiry: Option<u64>,
 }
 
 pub(crate) const WIDE: Kind = Kind {
@@ -44,6 +46,7 @@ pub(crate) const WIDE: Kind = Kind {
     has_hashed_user: false,
     when_full: WhenFull::ClosePublisher,
     connect_within: None,
+    session_expiry: None,
 };
 
 const DROPPING: Kind = Kind {
@@ -56,7 +59,7 @@ const DROPPING: Kind = Kind {
 pub(crate) type Table = (&'static str, Kind, &'static [Row]);
 
 /// All tables of rows.
-pub(crate) const TABLES: [Table; 29] = [
+pub(crate) const TABLES: [Table; 30] = [
     ("refused", WIDE, &rows::REFUSED),
     ("routed", WIDE, &rows::ROUTED),
     ("level", WIDE, &rows::LEVEL),
@@ -94,6 +97,14 @@ pub(crate) const TABLES: [Table; 29] = [
             ..WIDE
         },
         &silent::SILENT,
+    ),
+    (
+        "expiring",
+        Kind {
+            session_expiry: Some(1_000),
+            ..WIDE
+        },
+        &expiring::EXPIRING,
     ),
     (
         "crowded",
@@ -192,6 +203,7 @@ pub(crate) fn config(alloc: Global, kind: Kind) -> Result<HubConfig, Fail>
         hashed_users: hashed_users(alloc, kind)?,
         when_full: kind.when_full,
         connect_within: kind.connect_within,
+        session_expiry: kind.session_expiry,
     })
 }
 

@@ -6,6 +6,8 @@ mod broker;
 #[cfg(test)]
 mod dropping;
 #[cfg(test)]
+mod expiring;
+#[cfg(test)]
 mod full;
 #[cfg(test)]
 mod portions;

@@ -26,6 +26,7 @@ fn config() -> Option<HubConfig>
         hashed_users: None,
         when_full: WhenFull::ClosePublisher,
         connect_within: None,
+        session_expiry: None,
     })
 }
 

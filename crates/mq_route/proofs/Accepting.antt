@@ -47,17 +47,17 @@ use Rattle.mq_route.specs.declared.connection_state.ConnectionState.{ConnectionS
 use Rattle.mq_route.specs.declared.connection_state.ConnectionState.TheVariants.{AwaitingConnect, ConnectedAs, Closed}
 use Rattle.mq_route.specs.declared.connection_state.ConnectionTerms.{ConnectionTerms}
 use Rattle.mq_route.specs.Copies.{is_hidden_name, copy_by, will_message}
-use Rattle.mq_route.specs.Hub.{HubState, HubSession, HubConnection, new_hub, new_end, no_end, stage_of, changed, held_on, is_open, up_on, key_of, end_of, with_end, without_session, for_key, copies_of}
+use Rattle.mq_route.specs.Hub.{HubState, HubSession, HubConnection, new_hub, new_end, no_end, stage_of, key_on, changed, held_on, is_open, up_on, key_of, end_of, with_end, with_left, without_session, for_key, copies_of}
 use Rattle.mq_route.specs.Welcome.{client_of, refusal, ends_with}
-use Rattle.mq_route.specs.Work.{Work, begin, said, with_sessions, staged, shut, put_on, put_where, does, drops_copies, is_missed, have_room, deliver, place, place_all, publishes_next, remove, remove_if, last_will, will_after, leaves_behind, close, subscribed, unsubscribed, retained_copies}
+use Rattle.mq_route.specs.Work.{Work, begin, said, with_sessions, staged, shut, put_on, put_where, does, drops_copies, is_missed, have_room, deliver, place, place_all, publishes_next, remove, remove_if, last_will, will_after, leaves_behind, shut_down, close, subscribed, unsubscribed, retained_copies}
 use Rattle.mq_route.specs.Arrives.{Growth, granted, due, answers, answers_all, replies, greeting, terms_of, resume_session, new_session, start_session, take_over, goes_on, accept_connect, on_connect, on_first_packet, dispatch_packet, touched_on, arrives, takes, closes_by, broken, on_malformed}
-use Rattle.mq_route.specs.Step.{holding, Comes, Arrives, Waits, Breaks, Starves, LetsGo, Ticks, Done, InTime, Late, Does, ended_open, told}
+use Rattle.mq_route.specs.Step.{holding, Comes, Arrives, Waits, Breaks, Starves, LetsGo, Ticks, Done, InTime, Late, Does, ended_open, expired_keys, remove_all, expire, told}
 use Rattle.mq_route.specs.Runs.{Episode, Follows}
 use Rattle.mq_route.specs.Dropped.{when_over}
 use Rattle.mq_route.specs.Accepted.{Placing, AreAccepts, is_miss, marked_for, placings, in_share, in_will, in_leaving, in_close, in_answer, in_answers, in_replies, in_take_over, in_welcome, in_first, in_packet, in_takes, in_breaks, in_comes, in_ticks, in_step, AcceptLaws}
 use Rattle.mq_route.specs.Routed.{marked_by, marked}
 use Rattle.mq_route.proofs.Lines.{grown, names_changed, ups_changed, up_map}
-use Rattle.mq_route.proofs.Sessions.{has, has_with, has_without, end_without, has_new, end_new, no_session}
+use Rattle.mq_route.proofs.Sessions.{has, has_left, has_with, has_without, end_left, end_without, has_new, end_new, no_session}
 use Rattle.mq_route.proofs.Changes.{names_grown, ups_grown, retaining}
 use Rattle.mq_route.proofs.Events.{acts_are}
 use Rattle.mq_route.proofs.Books.{Each, each_filter, each_weaker, each_put, Stands, Rowed, copies_stand, retained_stand, put_alike, does_alike, Holds, holds_alike, holds_with, holds_does, Room, room, room_with, Whole, accepting, and_both}
@@ -436,6 +436,20 @@ module _ (capacity : ℕ) (drop : Bool) (ids : IdentifierLaws) (next : NextLaws)
   remove_if_kept true key w h = remove_kept key w h
   remove_if_kept false key w h = h
 
+  remove_all_kept : (keys : List ℕ) (w : Work) → Kept w → Kept (remove_all keys w)
+  remove_all_kept [] w h = h
+  remove_all_kept (key ∷ keys) w h = remove_all_kept keys (remove key w) (remove_kept key w h)
+
+  -- a session stores the time of a disconnect
+  marks_kept : (key : Option ℕ) (now : ℕ) (w : Work) → Kept w → Kept (with_sessions (with_left key now) w)
+  marks_kept key now w h = record {
+    is = h.is;
+    policy = h.policy;
+    books = λ c. subst (λ (e : End). IsSound capacity e.book) (sym (end_left key now c w.hub.sessions)) (h.books c);
+    rows = each_weaker (λ (r : Row). Stands w.hub.sessions r.0.0) (λ (r : Row). Stands (with_left key now w.hub.sessions) r.0.0)
+        (λ r there. has_left key now r.0.0 w.hub.sessions ∙ there) w.hub.rows h.rows;
+  }
+
   over_kept : (k : Conn) (why : HubClose) (key : ℕ) (terms : ConnectionTerms) (w : Work) → Kept w → Kept (when_over k why key terms w)
   over_kept k why key terms w h =
       let v = said (acts.Closed k why) (shut k w) in
@@ -446,6 +460,18 @@ module _ (capacity : ℕ) (drop : Bool) (ids : IdentifierLaws) (next : NextLaws)
   unfolding remove
   remove_if_still true key w = still_more (acts.Removed key) (removed_idle key) w.did
   remove_if_still false key w = λ c. refl
+
+  remove_all_still : (keys : List ℕ) (w : Work) → Still w.did (remove_all keys w).did
+  remove_all_still [] w = λ c. refl
+  remove_all_still (key ∷ keys) w = λ c. remove_all_still keys (remove key w) c ∙ remove_if_still true key w c
+
+  expire_still : (h : HubState) → Still [] (expire h).did
+  unfolding expire
+  expire_still h = remove_all_still (expired_keys h) (begin h)
+
+  expire_kept : (h : HubState) → Kept (begin h) → Kept (expire h)
+  unfolding expire
+  expire_kept h start = remove_all_kept (expired_keys h) (begin h) start
 
   over_still : (k : Conn) (why : HubClose) (key : ℕ) (terms : ConnectionTerms) (w : Work) → Still w.did (when_over k why key terms w).did
   over_still k why key terms w c =
@@ -477,8 +503,15 @@ module _ (capacity : ℕ) (drop : Bool) (ids : IdentifierLaws) (next : NextLaws)
   leaving_goes k why fits Closed w h = quiet w (said (acts.Closed k why) (shut k w)) (still_more (acts.Closed k why) (closed_idle k why) w.did) (record { is = h.is; policy = h.policy; books = h.books; rows = h.rows })
 
   close_goes : (k : Conn) (why : HubClose) (fits : Bool) (w : Work) → Kept w → Goes w (in_close k why fits w) (close k why fits w)
-  unfolding close
-  close_goes k why fits w h = leaving_goes k why fits (stage_of k w.hub.connections) w h
+  unfolding close shut_down
+  close_goes k why fits w h =
+      let g = leaving_goes k why fits (stage_of k w.hub.connections) w h in
+      record {
+        accepts = g.accepts;
+        kept = marks_kept (key_on (stage_of k w.hub.connections)) w.hub.clock (shut_down k why fits w) g.kept;
+        whole = g.whole;
+        places = g.places;
+      }
 
   put_kept : (k : Conn) (ps : List Packet) (w : Work) → Kept w → Kept (put_on k ps w)
   put_kept k ps w h = holds_alike capacity drop (put_on k ps w).hub w.hub (put_alike k ps w) h
@@ -523,7 +556,7 @@ module _ (capacity : ℕ) (drop : Bool) (ids : IdentifierLaws) (next : NextLaws)
   unfolding new_session
   new_kept client w h =
       let n = w.hub.next_key in
-      let s : HubSession = record { client = client; key = n; end = new_end w.hub.config } in
+      let s : HubSession = record { client = client; key = n; end = new_end w.hub.config; left = w.hub.clock } in
       record {
         is = h.is;
         policy = h.policy;
@@ -643,8 +676,9 @@ module _ (capacity : ℕ) (drop : Bool) (ids : IdentifierLaws) (next : NextLaws)
       subst (Goes (begin h) (cond alive (in_close k PeerEnded d.0 (begin h)) [])) (sym d.1)
       (record { accepts = over.accepts; kept = record { is = over.kept.is; policy = over.kept.policy; books = over.kept.books; rows = over.kept.rows }; whole = over.whole; places = over.places })
   event_goes h (Tick now) r w d s =
-      let v = begin (told now h) in
-      after_quiet (begin h) v w (in_ticks h.config.connect_within (max h.clock now) h.connections v w d.0) (λ c. refl) (ticks_go h.config.connect_within (max h.clock now) h.connections v w d.0 (record { is = s.is; policy = s.policy; books = s.books; rows = s.rows }))
+      let v = expire (told now h) in
+      after_quiet (begin h) v w (in_ticks h.config.connect_within (max h.clock now) h.connections v w d.0) (expire_still (told now h))
+      (ticks_go h.config.connect_within (max h.clock now) h.connections v w d.0 (expire_kept (told now h) (record { is = s.is; policy = s.policy; books = s.books; rows = s.rows })))
   event_goes h (Collect k) r w d s = quiet (begin h) w (same_still [] w.did (ap (λ (w : Work). w.did) d.0)) (subst Kept (sym d.0) (record { is = s.is; policy = s.policy; books = s.books; rows = s.rows }))
 
   run_kept : (es : List Episode) (h h2 : HubState) → Follows h es h2 → Holds capacity drop h → Holds capacity drop h2

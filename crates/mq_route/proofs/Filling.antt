@@ -41,7 +41,7 @@ use Rattle.mq_route.specs.declared.connection_state.ConnectionTerms.{ConnectionT
 use Rattle.mq_route.specs.Copies.{retained_for}
 use Rattle.mq_route.specs.Routed.{Seen, seen, seen_after, routes, routed_from, copies_for}
 use Rattle.mq_route.specs.Hub.{HubState, HubSession, new_hub, stage_of, is_open, key_on, held_on, up_on, end_of, with_end, for_key}
-use Rattle.mq_route.specs.Work.{Work, begin, said, with_sessions, staged, shut, put_on, put_where, does, drops_copies, needs, all_fit, have_room, remove, remove_if, retained_copies, will_after, leaves_behind, close}
+use Rattle.mq_route.specs.Work.{Work, begin, said, with_sessions, staged, shut, put_on, put_where, does, drops_copies, needs, all_fit, have_room, remove, remove_if, retained_copies, will_after, leaves_behind, shut_down, close}
 use Rattle.mq_route.specs.Arrives.{Growth, due, due_by, new_session, touched, touched_on, answers_all, replies, dispatch_packet, arrives, takes}
 use Rattle.mq_route.specs.Step.{holding, Comes, Arrives, Waits, Breaks, Starves, LetsGo, Does, event_refusal, told}
 use Rattle.mq_route.specs.Runs.{Episode, Follows, acts_of}
@@ -50,7 +50,7 @@ use Rattle.mq_route.specs.Full.{if_full, full_by, full_closes, IsPublishOrSubscr
 use Rattle.mq_route.proofs.Changes.{Anywhere, anywhere, Freely, freely, Debt, owes, nothing, Everywhere, Inner, sent_where, Outer, Ways, Sound, closing, rising, sound_put, sound_mild}
 use Rattle.mq_route.proofs.Walk.{last_will_keeps}
 use Rattle.mq_route.proofs.Frames.{closed_shut}
-use Rattle.mq_route.proofs.Steps.{heard_mild, stage_heard, takes_both, breaks_both, close_both, holding_both, ticks_both, ended_both}
+use Rattle.mq_route.proofs.Steps.{heard_mild, stage_heard, takes_both, breaks_both, close_both, holding_both, tick_both, ended_both}
 use Rattle.mq_route.proofs.Events.{sound_new}
 use Rattle.mq_route.proofs.Output.{sound_run}
 use Rattle.mq_route.proofs.Missing.{short_parts}
@@ -86,6 +86,7 @@ module _ (L : List Conn) (X : Type 0) where
   inner = record {
     put = λ k ps o w own r. put_few k ps o w r;
     moves = λ key e o w alike r. r;
+    marks = λ key now o w r. r;
     took = λ key m t n w r. few_more w.did (acts.Took key m) refl r;
     willed = λ key m w r. few_more w.did (acts.Will key m) refl r;
     placed = λ key m ps c t n w r.
@@ -271,7 +272,7 @@ left_full L why fits (ConnectedAs key terms last_activity) w e =
 left_full L why fits Closed w e = e
 
 full_close : (k : Conn) (fits : Bool) (w : Work) → full_closes w.did ≡ [] → full_closes (close k TargetFull fits w).did ≡ k ∷ []
-unfolding close full_by
+unfolding close shut_down full_by
 full_close k fits w none =
     left_full (k ∷ []) TargetFull fits (stage_of k w.hub.connections) (said (acts.Closed k TargetFull) (shut k w))
     (flat_map-append full_by w.did (acts.Closed k TargetFull ∷ []) ∙ ap (λ (l : List Conn). l ++ k ∷ []) none)
@@ -406,7 +407,7 @@ module _ (store : StoreLaws) (log : List Act) where
       inl (ap (λ (w : Work). full_closes w.did) d.1
       ∙ only (ended_both (Few [] ⊥) (May [] ⊥) Anywhere (inner [] ⊥) (outer [] ⊥) (ways [] ⊥) anywhere k (is_open (stage_of k h.connections)) d.0 (begin h) tt (s, inl refl)).1)
   few_event h (Tick now) r w d s a =
-      inl (only (ticks_both (Few [] ⊥) (May [] ⊥) Anywhere (inner [] ⊥) (outer [] ⊥) (ways [] ⊥) anywhere (λ fits w. tt) (inl (λ k. refl)) h.config.connect_within (max h.clock now) h.connections (begin (told now h)) w d.0 (s, inl refl)).1)
+      inl (only (tick_both (Few [] ⊥) (May [] ⊥) Anywhere (inner [] ⊥) (outer [] ⊥) (ways [] ⊥) anywhere (λ fits w. tt) (inl (λ k. refl)) (told now h) w d.0 (s, inl refl)).1)
   few_event h (Collect k) r w d s a = inl (ap (λ (w : Work). full_closes w.did) d.0)
 
 -- under DropCopy no event is too much

@@ -29,12 +29,12 @@ use Rattle.mq_route.specs.Copies.{will_message, copy_by, is_hidden_name}
 use Rattle.mq_route.specs.Hub.{HubState, HubConnection, new_hub, is_connection, is_for, changed, stage_of, is_open, held_on, up_on, end_of, with_end, without_session, for_key, copies_of}
 use Rattle.mq_route.specs.Work.{Work, begin, said, with_sessions, staged, shut, put_on, put_where, does, drops_copies, needs, all_fit, have_room, remove, remove_if, will_after, close}
 use Rattle.mq_route.specs.Arrives.{new_session, touched, touched_on, takes}
-use Rattle.mq_route.specs.Step.{holding, Comes, Arrives, Waits, Breaks, Starves, LetsGo, Ticks, Done, InTime, Late, Does, told}
+use Rattle.mq_route.specs.Step.{holding, Comes, Arrives, Waits, Breaks, Starves, LetsGo, Ticks, Done, InTime, Late, Does, expired_keys, remove_all, expire, told}
 use Rattle.mq_route.specs.Dropped.{dropped_by, dropped, is_in, LosesWill, ComesLosing, TicksLosing, IsLosingEvent, WillLaws}
 use Rattle.mq_route.proofs.Lines.{one_conn, Names, Ups, grown, names_changed, ups_changed, stage_there}
 use Rattle.mq_route.proofs.Changes.{Debt, owes, nothing, Freely, freely, Anywhere, anywhere, Everywhere, Inner, sent_where, Outer, Nearby, IsShort, Sound, sound_holding, closing, rising, closed_line, names_grown, ups_grown}
 use Rattle.mq_route.proofs.Frames.{stage_firm}
-use Rattle.mq_route.proofs.Steps.{heard_mild, stage_heard, takes_both, breaks_both, close_both, ended_both}
+use Rattle.mq_route.proofs.Steps.{heard_mild, stage_heard, takes_both, breaks_both, close_both, expire_both, ended_both}
 use Rattle.mq_route.proofs.Events.{sound_new}
 use Rattle.mq_route.proofs.Output.{sound_run}
 use Rattle.mq_route.proofs.Missing.{short_parts}
@@ -212,6 +212,7 @@ module _ (config : HubConfig) (fits : Bool) (w : Work) (is : w.hub.config ≡ co
   inner = record {
     put = λ k ps o v own r. put_few k ps o v r;
     moves = λ key e o v alike r. r;
+    marks = λ key now o v r. r;
     took = λ key m t n v r. few_more v.did (acts.Took key m) refl r;
     willed = λ key m v r. few_more v.did (acts.Will key m) refl r;
     placed = λ key m ps c t n v r.
@@ -325,6 +326,19 @@ few_ticks config within now xs w w2 (Late x ys why fits v v2 late more) s is c i
         soon (inl e) = inl e
         soon (inr x) = inr (inl x)
 
+-- no will is dropped when sessions expire
+dropped_removed : (keys : List ℕ) (w : Work) → dropped (remove_all keys w).did ≡ dropped w.did
+unfolding remove dropped_by
+dropped_removed [] w = refl
+dropped_removed (key ∷ keys) w = dropped_removed keys (remove key w) ∙ one key w
+  where
+    one : (key : ℕ) (w : Work) → dropped (remove key w).did ≡ dropped w.did
+    one key w = dropped_more w.did (acts.Removed key) ∙ append-nil (dropped w.did)
+
+dropped_expired : (h : HubState) → dropped (expire h).did ≡ []
+unfolding expire
+dropped_expired h = dropped_removed (expired_keys h) (begin h)
+
 -- a step begins with no will dropped
 none_yet : (A : Type 0) → (false ≡ true) ⊎ A → A
 none_yet A (inl e) = absurd (true≢false (sym e))
@@ -342,7 +356,14 @@ few_event h (Ended k) r w d s c i =
     let end = ended_both (Few h.config f b refl) Freely (IsNear f b) (inner h.config f b refl) (outer h.config f b refl) freely (nearby f b) k (is_open (stage_of k h.connections)) f b (at_itself f b) (s, λ c i. inl i) in
     none_yet (LosesWill h.config.when_full c f b) (end.1 c (subst (λ (w : Work). is_in c (dropped w.did) ≡ true) d.1 i))
 few_event h (Tick now) r w d s c i =
-    none_yet (TicksLosing h.config.when_full c h.config.connect_within (max h.clock now) h.connections (begin (told now h)) w d.0) (few_ticks h.config h.config.connect_within (max h.clock now) h.connections (begin (told now h)) w d.0 s refl c i)
+    let v = expire (told now h) in
+    let start = expire_both (reading.Same h.config) Freely Anywhere (reading.same_inner h.config) (reading.same_outer h.config) freely anywhere (told now h) (s, refl) in
+    go (TicksLosing h.config.when_full c h.config.connect_within (max h.clock now) h.connections v w d.0)
+    (few_ticks h.config h.config.connect_within (max h.clock now) h.connections v w d.0 start.0 start.1 c i)
+  where
+    go : (A : Type 0) → (is_in c (dropped (expire (told now h)).did) ≡ true) ⊎ A → A
+    go A (inl e) = absurd (true≢false (sym e ∙ ap (is_in c) (dropped_expired (told now h))))
+    go A (inr x) = x
 few_event h (Collect k) r w d s c i = absurd (true≢false (sym i ∙ ap (λ (w : Work). is_in c (dropped w.did)) d.0))
 
 pub laws : WillLaws

@@ -25,7 +25,7 @@ use Rattle.mq_route.specs.Step.{Does, told, holding}
 use Rattle.mq_route.specs.Runs.{Episode, Follows, acts_of}
 use Rattle.mq_route.proofs.Books.{and_both}
 use Rattle.mq_route.proofs.Changes.{Freely, freely, Anywhere, anywhere, Debt, owes, nothing, Everywhere, Inner, Sends, sent_where, Outer, Sound, closing, rising}
-use Rattle.mq_route.proofs.Steps.{comes_both, holding_both, ticks_both, ended_both}
+use Rattle.mq_route.proofs.Steps.{comes_both, holding_both, tick_both, ended_both}
 use Rattle.mq_route.proofs.Events.{acts_are}
 use Rattle.mq_route.proofs.Output.{sound_event}
 
@@ -93,6 +93,7 @@ module _ (config : HubConfig) (keep : drops_copies config.when_full ≡ false) w
   inner = record {
     put = λ k ps o w own r. put_calm k ps o w r;
     moves = λ key e o w alike r. r;
+    marks = λ key now o w r. r;
     took = λ key m t n w r. (r.0, more w.did (acts.Took key m) (λ c. refl) r.1);
     willed = λ key m w r. (r.0, more w.did (acts.Will key m) (λ c. refl) r.1);
     placed = λ key m ps c t n w r.
@@ -159,7 +160,7 @@ module _ (config : HubConfig) (keep : drops_copies config.when_full ≡ false) w
       let end = ended_both Calm Freely Anywhere inner outer freely anywhere k (is_open (stage_of k h.connections)) d.0 (begin h) tt (s, (same, λ c. refl)) in
       subst (Calm nothing) (sym d.1) (end.1.0, end.1.1)
   calm_event h (Tick now) r w d s same =
-      (ticks_both Calm Freely Anywhere inner outer freely anywhere (λ fits w. tt) tt h.config.connect_within (max h.clock now) h.connections (begin (told now h)) w d.0 (s, (same, λ c. refl))).1
+      (tick_both Calm Freely Anywhere inner outer freely anywhere (λ fits w. tt) tt (told now h) w d.0 (s, (same, λ c. refl))).1
   calm_event h (Collect k) r w d s same = subst (Calm nothing) (sym d.0) (same, λ c. refl)
 
   pub none_run : (es : List Episode) (h h2 : HubState) → Follows h es h2 → Sound h → h.config ≡ config → NoMiss (acts_of es)

@@ -21,7 +21,7 @@ use Rattle.mq_route.specs.Runs.{Episode, Follows, Stays, ends_it, collects, writ
 use Rattle.mq_route.proofs.Lines.{one_conn, Names, Bytes as BytesStay, grown, names_changed, bytes_changed, knows_map, waiting_map, put_here, put_there}
 use Rattle.mq_route.proofs.Uppers.{newcomer, risen}
 use Rattle.mq_route.proofs.Changes.{Anywhere, anywhere, Freely, freely, Debt, owes, nothing, Everywhere, Inner, sent_where, Outer, Sound, names_grown, closed_line}
-use Rattle.mq_route.proofs.Steps.{comes_both, holding_both, ticks_both, ended_both}
+use Rattle.mq_route.proofs.Steps.{comes_both, holding_both, tick_both, ended_both}
 use Rattle.mq_route.proofs.Events.{not_known, sound_opened, sound_collected, sound_without, ended_idle, emptied}
 
 -- ---- the packets of a connection
@@ -77,6 +77,7 @@ module _ (n : Conn) (base : List ℕ) where
   inner = record {
     put = λ k ps o w own r. put_grows k ps o w r;
     moves = λ key e o w alike r. r;
+    marks = λ key now o w r. r;
     took = λ key m t c w r. r;
     willed = λ key m w r. r;
     placed = λ key m ps d t c w r. sent_where Grows put_grows (up_on key w.hub.connections) ps (owes ((key, m) ∷ d) t c) w r;
@@ -146,6 +147,7 @@ pub any_inner : Inner Everywhere Any
 any_inner = record {
   put = λ k ps o w own r. tt;
   moves = λ key e o w alike r. tt;
+  marks = λ key now o w r. tt;
   took = λ key m t c w r. tt;
   willed = λ key m w r. tt;
   placed = λ key m ps d t c w r. tt;
@@ -247,7 +249,7 @@ leaves n h (Ended k) r w right d stays s known =
     (grew n h (Ended k) r (ended k fits h) refl (sound_without k v (ended_idle k fits (begin h)) end.0) (kept.0 ∙ end.1.0, kept.1 ∙ end.1.1))
 leaves n h (Tick now) r w right d stays s known =
     let base = waiting_on n h.connections in
-    let end = ticks_both (Grows n base) Freely Anywhere (inner n base) (outer n base) freely anywhere (λ fits w. tt) tt h.config.connect_within (max h.clock now) h.connections (begin (told now h)) w d.0 (s, begins_at n h known) in
+    let end = tick_both (Grows n base) Freely Anywhere (inner n base) (outer n base) freely anywhere (λ fits w. tt) tt (told now h) w d.0 (s, begins_at n h known) in
     grew n h (Tick now) r w refl end.0 end.1
 leaves n h (Collect k) r w right d stays s known =
     subst (Leaves n h (Collect k) r) (sym d.0) (collected_leaves n k h r (ap (λ (r : HubReply). r.output) d.1) s known)
@@ -261,7 +263,7 @@ sound_event h (Bytes k piece) r w right d s = (comes_both Any Freely Anywhere an
 sound_event h (Ended k) r w right d s =
     let v = ended_open k (is_open (stage_of k h.connections)) d.0 (begin h) in
     subst (λ (w : Work). Sound w.hub) (sym d.1) (sound_without k v (ended_idle k d.0 (begin h)) (ended_both Any Freely Anywhere any_inner any_outer freely anywhere k (is_open (stage_of k h.connections)) d.0 (begin h) tt (s, tt)).0)
-sound_event h (Tick now) r w right d s = (ticks_both Any Freely Anywhere any_inner any_outer freely anywhere (λ fits w. tt) tt h.config.connect_within (max h.clock now) h.connections (begin (told now h)) w d.0 (s, tt)).0
+sound_event h (Tick now) r w right d s = (tick_both Any Freely Anywhere any_inner any_outer freely anywhere (λ fits w. tt) tt (told now h) w d.0 (s, tt)).0
 sound_event h (Collect k) r w right d s = subst (λ (w : Work). Sound w.hub) (sym d.0) (sound_collected k h s)
 
 pub sound_run : (es : List Episode) (h h2 : HubState) → Follows h es h2 → Sound h → Sound h2

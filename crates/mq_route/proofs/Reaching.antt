@@ -24,7 +24,7 @@ use Rattle.mq_route.specs.Laws.{places_on, OutputLaws}
 use Rattle.mq_route.proofs.Lines.{one_conn, same_conn-itself, up_is, conn_in, upper, Names, Bytes as BytesStay, Ups, grown, names_changed, bytes_changed, ups_changed, up_map, waiting_map, put_there}
 use Rattle.mq_route.proofs.Uppers.{newcomer, unless, upper_stage, upper_risen}
 use Rattle.mq_route.proofs.Changes.{Freely, freely, Anywhere, anywhere, Debt, owes, nothing, Inner, Outer, Sound, names_grown, up_put, up_put_where, upper_shut, closed_line, closing, rising}
-use Rattle.mq_route.proofs.Steps.{comes_both, holding_both, ticks_both, ended_both}
+use Rattle.mq_route.proofs.Steps.{comes_both, holding_both, tick_both, ended_both}
 use Rattle.mq_route.proofs.Events.{emptied, sound_new, acts_are}
 use Rattle.mq_route.proofs.Output.{kept_line, written_is, sound_run}
 
@@ -103,6 +103,7 @@ module _ (n : Conn) (h : HubState) where
   inner = record {
     put = put_quiet;
     moves = λ key e o w alike r. r;
+    marks = λ key now o w r. r;
     took = λ key m t c w r. more (acts.Took key m) (owes [] ((key, m) ∷ t) c) nothing w r;
     willed = λ key m w r. more (acts.Will key m) nothing nothing w r;
     placed = λ key m ps d t c w r. placed_quiet key m ps nothing nothing w r;
@@ -214,7 +215,7 @@ module _ (n : Conn) (h : HubState) where
       ∙ (kept_line n k other v.hub.connections).1
       ∙ end.1.1 (sym (ap (λ (w : Work). list_any (places_on n h) w.did) d.1) ∙ none)
   event (Tick now) r w d s other none =
-      (ticks_both Quiet Freely Anywhere inner outer freely anywhere (λ fits w. tt) tt h.config.connect_within (max h.clock now) h.connections (begin (told now h)) w d.0 (s, starts s)).1.1 none
+      (tick_both Quiet Freely Anywhere inner outer freely anywhere (λ fits w. tt) tt (told now h) w d.0 (s, starts s)).1.1 none
   event (Collect k) r w d s other none = ap (λ (w : Work). waiting_on n w.hub.connections) d.0 ∙ put_there k n emptied h.connections (λ x. refl) other
 
   pub others : (e : HubEvent) (r : HubReply) (h2 : HubState) → HubStep h e r h2 → Sound h → is_on n e ≡ false → list_any (places_on n h) r.acts ≡ false

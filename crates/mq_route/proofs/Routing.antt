@@ -39,7 +39,7 @@ use Rattle.mq_route.specs.Laws.{RoutingLaws, for_client}
 use Rattle.mq_route.proofs.Lines.{grown, upper, conn_in, up_is, up_map, names_changed, ups_changed}
 use Rattle.mq_route.proofs.Uppers.{IsIdle, unless_is, upper_risen, upper_opened, upper_without}
 use Rattle.mq_route.proofs.Changes.{Anywhere, anywhere, Freely, freely, Debt, owes, nothing, Everywhere, Inner, sent_where, Outer, Sound, closing, rising, names_grown, ups_grown, upper_shut}
-use Rattle.mq_route.proofs.Steps.{comes_both, holding_both, ticks_both, ended_both}
+use Rattle.mq_route.proofs.Steps.{comes_both, holding_both, tick_both, ended_both}
 use Rattle.mq_route.proofs.Events.{sound_new, ended_idle, emptied, emptied_names, emptied_ups}
 use Rattle.mq_route.proofs.Missing.{settled_is, none_run}
 use Rattle.mq_route.proofs.Output.{sound_event}
@@ -261,6 +261,7 @@ module _ (store : StoreLaws) where
     inner = record {
       put = λ k ps o w own a. put_tells k ps o w a;
       moves = λ key e o w alike a. a;
+      marks = λ key now o w a. a;
       took = λ key m t n w a. took_tells key m w a;
       willed = λ key m w a. willed_tells key m w a;
       placed = λ key m ps due t n w a.
@@ -376,7 +377,7 @@ module _ (store : StoreLaws) where
       acted log h r w (acts_in _ _ d.2)
       (subst (λ (w : Work). Agrees (log ++ w.did) w.hub []) (sym d.1) (looks [] (log ++ v.did) v.hub (ended k d.0 h).hub [] (lines_as [] v.hub (without_connection k v.hub.connections) same) end.1))
   tells_event log h (Tick now) r w right d s a =
-      let end = ticks_both (Tells log) Freely Anywhere (inner log) (outer log) freely anywhere (λ fits w. tt) tt h.config.connect_within (max h.clock now) h.connections (begin (told now h)) w d.0 (s, starts log h a) in
+      let end = tick_both (Tells log) Freely Anywhere (inner log) (outer log) freely anywhere (λ fits w. tt) tt (told now h) w d.0 (s, starts log h a) in
       acted log h r w (acts_in _ _ d.1) end.1
   tells_event log h (Collect k) r w right d s a =
       let same : (c : ℕ) → up_on c (collected k h).connections ≡ up_on c h.connections = λ c. up_map (changed emptied k) (names_changed emptied k emptied_names) (ups_changed emptied k emptied_ups) c h.connections in

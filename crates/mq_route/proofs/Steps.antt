@@ -1,5 +1,5 @@
 -- Properties that packets, opened and ended connections, and ticks keep.
-use Rattle.std.proofs.Common.{◌≡◌, ℕ, Bool, true, false, not, ◌&&◌, cond, List, [], ◌∷◌, ◌++◌, length, Option, Some, None, refl, sym, ap, subst, ◌∙◌, eqb, eq-eqb, true≢false, le_refl}
+use Rattle.std.proofs.Common.{◌≡◌, ℕ, Bool, true, false, not, ◌&&◌, cond, List, [], ◌∷◌, ◌++◌, length, map, filter, Option, Some, None, is_some, refl, sym, ap, subst, ◌∙◌, eqb, eq-eqb, true≢false, le_refl}
 use Rattle.std.proofs.lemmas.Bool.{cond-true, cond-false, cond_both, false_from_ne_true}
 use Rattle.std.specs.Option.{option_or}
 use Rattle.mq_packet.specs.declared.connack.ConnAck.TheVariants as connacks
@@ -27,9 +27,9 @@ use Rattle.mq_route.specs.declared.connection_state.ConnectionTerms.{ConnectionT
 use Rattle.mq_route.specs.Routed.{same_conn}
 use Rattle.mq_route.specs.Hub.{HubState, HubSession, HubConnection, new_end, no_end, stage_of, with_connection, is_open, key_on, is_clean, is_for, up_on, end_of, key_of}
 use Rattle.mq_route.specs.Welcome.{client_of, refusal, refusal_by_tables, is_unavailable, ends_on}
-use Rattle.mq_route.specs.Work.{Work, said, with_connections, staged, shut, put_on, does, have_room, remove, will_after, leaves_behind, close}
+use Rattle.mq_route.specs.Work.{Work, begin, said, with_connections, staged, shut, put_on, does, have_room, remove, will_after, leaves_behind, shut_down, close}
 use Rattle.mq_route.specs.Arrives.{Growth, due, answers, answers_all, replies, greeting, terms_of, resume_session, new_session, start_session, take_over, goes_on, accept_connect, on_connect, on_first_packet, dispatch_packet, touched, touched_on, arrives, noted, takes, closes_by, broken, on_malformed}
-use Rattle.mq_route.specs.Step.{holding, Comes, Arrives, Waits, Breaks, Starves, LetsGo, Ticks, Done, InTime, Late, has_passed, late_reason, ended_open}
+use Rattle.mq_route.specs.Step.{holding, Comes, Arrives, Waits, Breaks, Starves, LetsGo, Ticks, Done, InTime, Late, has_passed, late_reason, is_expired, expired_keys, remove_all, expire, ended_open}
 use Rattle.mq_route.proofs.Lines.{one_conn, upper, up_is, upper_none, conn_in, Mild, stage_here, fresh_known}
 use Rattle.mq_route.proofs.Uppers.{IsIdle, unless, upper_at, upper_stage}
 use Rattle.mq_route.proofs.Sessions.{has, has_new, end_new, key_there}
@@ -93,6 +93,7 @@ module _ {IsOwn : Conn → Type 0} (R : Debt → Work → Type 0) (May : HubClos
   both = record {
     put = λ k ps o w own h. (sound.put k ps o w own h.0, inner.put k ps o w own h.1);
     moves = λ key e o w alike h. (sound.moves key e o w alike h.0, inner.moves key e o w alike h.1);
+    marks = λ key now o w h. (sound.marks key now o w h.0, inner.marks key now o w h.1);
     took = λ key m t n w h. (h.0, inner.took key m t n w h.1);
     willed = λ key m w h. (h.0, inner.willed key m w h.1);
     placed = λ key m ps c t n w h. (sound.placed key m ps c t n w h.0, inner.placed key m ps c t n w h.1);
@@ -120,8 +121,10 @@ module _ {IsOwn : Conn → Type 0} (R : Debt → Work → Type 0) (May : HubClos
       (sound_shuts k w h.0 free, outer.shuts k why w may h.0 free h.1)
 
   pub close_both : (k : Conn) (why : HubClose) (fits : Bool) (w : Work) → Near fits w → May why → Both nothing w → Both nothing (close k why fits w)
-  unfolding close
-  close_both k why fits w near may h = leaves_both k why fits (stage_of k w.hub.connections) w near may refl h
+  unfolding close shut_down
+  close_both k why fits w near may h =
+      both.marks (key_on (stage_of k w.hub.connections)) w.hub.clock nothing (shut_down k why fits w)
+      (leaves_both k why fits (stage_of k w.hub.connections) w near may refl h)
 
   -- ---- a packet on a connected connection
 
@@ -197,7 +200,7 @@ module _ {IsOwn : Conn → Type 0} (R : Debt → Work → Type 0) (May : HubClos
   unfolding new_session
   greet_new_both k c client w own fresh ok h =
       let n = w.hub.next_key in
-      let session : HubSession = record { client = client; key = n; end = new_end w.hub.config } in
+      let session : HubSession = record { client = client; key = n; end = new_end w.hub.config; left = w.hub.clock } in
       let none = h.0.keyless n (le_refl n) in
       let itself : eqb n n ≡ true = eq-eqb n n refl in
       let is_new : end_of n (w.hub.sessions ++ session ∷ []) ≡ new_end w.hub.config =
@@ -295,6 +298,42 @@ module _ {IsOwn : Conn → Type 0} (R : Debt → Work → Type 0) (May : HubClos
   pub holding_both : (k : Conn) (b : List ℕ) (w : Work) → (R nothing w → R nothing (holding k b w)) → Both nothing w → Both nothing (holding k b w)
   holding_both k b w holds h = (sound_holding k b w h.0, holds h.1)
 
+  -- sessions of clients that are not connected are removed
+  abbrev AreAway : List ℕ → List HubConnection → Type 0
+  AreAway [] xs = Unit {0}
+  AreAway (key ∷ keys) xs = (upper key xs ≡ None) × AreAway keys xs
+
+  remove_all_both : (keys : List ℕ) (w : Work) → AreAway keys w.hub.connections → Both nothing w → Both nothing (remove_all keys w)
+  unfolding remove
+  remove_all_both [] w away h = h
+  remove_all_both (key ∷ keys) w away h =
+      remove_all_both keys (remove key w) (still_away keys key w away.1) (sound_removes key w h.0 away.0, outer.removes key w h.0 away.0 h.1)
+    where
+      still_away : (keys : List ℕ) (key : ℕ) (w : Work) → AreAway keys w.hub.connections → AreAway keys (remove key w).hub.connections
+      still_away keys key w away = away
+
+  -- the expired ones are
+  expired_away : (h : HubState) (ss : List HubSession) → AreAway (map (λ s. s.key) (filter (is_expired h) ss)) h.connections
+  expired_away h [] = tt
+  expired_away h (s ∷ ss) = go (is_expired h s) refl (expired_away h ss)
+    where
+      go : (b : Bool) → is_expired h s ≡ b → AreAway (map (λ s. s.key) (filter (is_expired h) ss)) h.connections
+          → AreAway (map (λ s. s.key) (cond b (s ∷ filter (is_expired h) ss) (filter (is_expired h) ss))) h.connections
+      go true is rest = (upper_none s.key h.connections (none_on (up_on s.key h.connections) (first (not (is_some (up_on s.key h.connections))) (has_passed h.config.session_expiry s.left h.clock) is)), rest)
+      go false is rest = rest
+
+      first : (a b : Bool) → (a && b) ≡ true → a ≡ true
+      first true b e = refl
+      first false b e = absurd (true≢false (sym e))
+
+      none_on : (o : Option Conn) → not (is_some o) ≡ true → o ≡ None
+      none_on None e = refl
+      none_on (Some k) e = absurd (true≢false (sym e))
+
+  pub expire_both : (h : HubState) → Both nothing (begin h) → Both nothing (expire h)
+  unfolding expire
+  expire_both h start = remove_all_both (expired_keys h) (begin h) (expired_away h h.sessions) start
+
   -- a tick closes connections for two reasons
   may_late : May NoConnect → (within : Option ℕ) (now since : ℕ) (s : ConnectionState) (why : HubClose) → late_reason within now since s ≡ Some why → May why
   may_late silent within now since AwaitingConnect why e = go (has_passed within since now) e
@@ -316,6 +355,11 @@ module _ {IsOwn : Conn → Type 0} (R : Debt → Work → Type 0) (May : HubClos
   ticks_both near silent within now xs w w2 (Late x ys why fits v v2 late more) h =
       ticks_both near silent within now ys (close x.conn why fits v) v2 more
       (close_both x.conn why fits v (near fits v) (may_late silent within now x.since x.stage why late) h)
+
+  -- a tick
+  pub tick_both : ((fits : Bool) (w : Work) → Near fits w) → May NoConnect → (h : HubState) (w : Work) → Ticks h.config.connect_within h.clock h.connections (expire h) w
+      → Both nothing (begin h) → Both nothing w
+  tick_both near silent h w t start = ticks_both near silent h.config.connect_within h.clock h.connections (expire h) w t (expire_both h start)
 
   pub ended_both : (k : Conn) (alive fits : Bool) (w : Work) → Near fits w → Both nothing w → Both nothing (ended_open k alive fits w)
   ended_both k true fits w near h = close_both k PeerEnded fits w near ways.peer h

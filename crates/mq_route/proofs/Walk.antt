@@ -90,6 +90,7 @@ module _ {IsOwn : Conn → Type 0} (R : Debt → Work → Type 0) (inner : Inner
   home = record {
     put = λ k ps o w own h. (inner.put k ps o w own h.0, λ j up. h.1 j (sym (up_put key k ps w) ∙ up));
     moves = λ c e o w alike h. (inner.moves c e o w alike h.0, h.1);
+    marks = λ c now o w h. (inner.marks c now o w h.0, h.1);
     took = λ c m t n w h. (inner.took c m t n w h.0, h.1);
     willed = λ c m w h. (inner.willed c m w h.0, h.1);
     placed = λ c m ps d t n w h. (inner.placed c m ps d t n w h.0, λ j up. h.1 j (sym (up_put_where key (up_on c w.hub.connections) ps w) ∙ up));

@@ -36,7 +36,7 @@ use Rattle.mq_route.specs.Hub.{HubState, HubConnection, new_hub, stage_of, is_op
 use Rattle.mq_route.specs.Welcome.{client_of, refusal}
 use Rattle.mq_route.specs.Work.{Work, begin, said, put_on, does, is_missed, place, have_room, will_after, close, subscribed, retained_copies}
 use Rattle.mq_route.specs.Arrives.{Growth, granted, due, answers, touched_on, takes, broken}
-use Rattle.mq_route.specs.Step.{holding, Comes, Arrives, Waits, Breaks, Starves, LetsGo, Ticks, Done, InTime, Late, Does, event_refusal, told}
+use Rattle.mq_route.specs.Step.{holding, Comes, Arrives, Waits, Breaks, Starves, LetsGo, Ticks, Done, InTime, Late, Does, event_refusal, expire, told}
 use Rattle.mq_route.specs.Runs.{Episode, Follows}
 use Rattle.mq_route.specs.Dropped.{when_over}
 
@@ -188,7 +188,7 @@ in_step hub (Bytes conn piece) reply work does =
     in_comes hub.config.limits conn (held_on conn hub.connections ++ piece) (holding conn [] (begin hub)) work does.0
 in_step hub (Ended conn) reply work does =
     if is_open (stage_of conn hub.connections) then in_close conn PeerEnded does.0 (begin hub) else []
-in_step hub (Tick now) reply work does = in_ticks hub.config.connect_within (max hub.clock now) hub.connections (begin (told now hub)) work does.0
+in_step hub (Tick now) reply work does = in_ticks hub.config.connect_within (max hub.clock now) hub.connections (expire (told now hub)) work does.0
 in_step hub (Collect conn) reply work does = []
 
 pub record AcceptLaws : Type 0 where

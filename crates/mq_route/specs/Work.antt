@@ -22,7 +22,7 @@ use Rattle.mq_route.specs.declared.close.HubClose.TheVariants.{Own}
 use Rattle.mq_route.specs.declared.connection_state.ConnectionState.{ConnectionState}
 use Rattle.mq_route.specs.declared.connection_state.ConnectionState.TheVariants.{AwaitingConnect, ConnectedAs, Closed}
 use Rattle.mq_route.specs.Copies.{will_message, kept, retained_for}
-use Rattle.mq_route.specs.Hub.{HubState, HubSession, HubConnection, with_connection, stage_of, up_on, end_of, with_end, without_session, for_key, copies_of}
+use Rattle.mq_route.specs.Hub.{HubState, HubSession, HubConnection, with_connection, stage_of, key_on, up_on, end_of, with_end, with_left, without_session, for_key, copies_of}
 
 -- hub: the broker. did: its acts. sent: the packets that it sent, each with its connection. came:
 -- the packets of connected clients, each with the client's key, without those that closed their
@@ -160,9 +160,14 @@ leaves_behind why fits (ConnectedAs key terms last_activity) work =
     (remove_if terms.clean_session key (with_sessions (with_end key (over (end_of key work.hub.sessions))) work))
 leaves_behind why fits Closed work = work
 
--- a connection is closed (4.8); fits: the allocations for its will succeed
+-- a connection is shut down; fits: the allocations for its will succeed
+unfoldable pub shut_down : Conn → HubClose → Bool → Work → Work
+shut_down conn why fits work = leaves_behind why fits (stage_of conn work.hub.connections) (said (acts.Closed conn why) (shut conn work))
+
+-- a connection is closed (4.8): it is shut down, and the client's session stores the time
 unfoldable pub close : Conn → HubClose → Bool → Work → Work
-close conn why fits work = leaves_behind why fits (stage_of conn work.hub.connections) (said (acts.Closed conn why) (shut conn work))
+close conn why fits work =
+    with_sessions (with_left (key_on (stage_of conn work.hub.connections)) work.hub.clock) (shut_down conn why fits work)
 
 -- ---- subscriptions
 

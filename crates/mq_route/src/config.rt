@@ -60,4 +60,7 @@ pub struct HubConfig {
     /// limit (3.1). A tick closes a connection that was opened longer ago. The time of opening is
     /// that of the last tick, so call `Tick` before `Opened`.
     pub connect_within: Option<u64>,
+    /// The time in milliseconds after which a tick removes the session of a client that is not
+    /// connected; `None` to keep it (3.1.2.4). It counts from the disconnect.
+    pub session_expiry: Option<u64>,
 }

@@ -32,6 +32,7 @@ pub fn broker_config() -> HubConfig
       hashed_users = None;
       when_full = ClosePublisher;
       connect_within = None;
+      session_expiry = None;
     } }
 {
     HubConfig {
@@ -44,5 +45,6 @@ pub fn broker_config() -> HubConfig
         hashed_users: None,
         when_full: WhenFull::ClosePublisher,
         connect_within: None,
+        session_expiry: None,
     }
 }

@@ -34,9 +34,11 @@ impl<S: FilterStore> HubOver<S> {
         ensures room { log.old.room ≤ log.new.room + 3 }
     {
         match self.key(conn) {
-            Some(key) => self
-                .tables
-                .close_up(self.alloc, self.config.when_full, conn, key, why, log),
+            Some(key) => {
+                let (when_full, now) = (self.config.when_full, self.clock);
+                self.tables
+                    .close_up(self.alloc, when_full, conn, key, why, now, log);
+            }
             None => self.close_idle(conn, why, log),
         }
     }

@@ -2,8 +2,7 @@
 
 ghost use Rattle.std.specs.Prelude.{◌≡◌, ◌+◌, ◌≤◌, ◌<◌, ℕ, List, true, false, Some, None};
 ghost use Rattle.mq_route.specs.Hub.{is_clean, key_of, key_on, stage_of, up_on};
-ghost use Rattle.mq_route.specs.Work.{close};
-ghost use Rattle.mq_hub.specs.Inside.Close.{parts, will_left};
+ghost use Rattle.mq_hub.specs.Inside.Close.{close_at, parts, will_left};
 ghost use Rattle.mq_hub.specs.Inside.TableSteps.{AreHubTables, Proceeds};
 ghost use Rattle.mq_hub.specs.Inside.Sessions.{sessions_of};
 
@@ -113,8 +112,8 @@ impl<S: FilterStore> Tables<S> {
     }
 
     /// Closes a connection on which a client is connected (4.8). Ends its session if clean session
-    /// was 1 (3.1.2.4), then publishes its will or reports it as dropped (3.1.2.5). Room reserved
-    /// for sessions and connections stays reserved.
+    /// was 1 (3.1.2.4), then publishes its will or reports it as dropped (3.1.2.5). The session
+    /// stores the time `now`. Room reserved for sessions and connections stays reserved.
     pub(crate) fn close_up(
         &mut self,
         alloc: Global,
@@ -122,12 +121,13 @@ impl<S: FilterStore> Tables<S> {
         conn: Conn,
         key: ClientKey,
         why: HubClose,
+        now: u64,
         log: &mut ActLog,
     )
         requires hubs { AreHubTables self.old }
         requires up { key_on (stage_of conn self.old.connections.connections) ≡ Some key }
         requires room { 3 ≤ log.old.room }
-        ensures proceeds { Proceeds when_full (close conn why) self.old log.old.acts self.new log.new.acts }
+        ensures proceeds { Proceeds when_full (close_at now conn why) self.old log.old.acts self.new log.new.acts }
         ensures away { up_on key self.new.connections.connections ≡ None }
         ensures clients { is_clean (stage_of conn self.old.connections.connections) ≡ false
             → (n : List ℕ) → key_of n (sessions_of self.new.sessions.list) ≡ key_of n (sessions_of self.old.sessions.list) }
@@ -137,5 +137,6 @@ impl<S: FilterStore> Tables<S> {
     {
         let will = self.leave(alloc, conn, key, why, log);
         self.last_will(alloc, when_full, key, will, log);
+        self.mark_left(key, now);
     }
 }

@@ -11,7 +11,7 @@ ghost use Rattle.mq_route.specs.Hub.{is_clean, key_on, stage_of, up_on, with_con
 ghost use Rattle.mq_route.specs.Work.{close};
 ghost use Rattle.mq_hub.specs.Inside.Refinement.{Refines};
 ghost use Rattle.mq_hub.specs.Inside.Invariant.{IsWillWithin};
-ghost use Rattle.mq_hub.specs.Inside.Close.{left_with, parts, will_left};
+ghost use Rattle.mq_hub.specs.Inside.Close.{close_at, left_with, parts, will_left};
 ghost use Rattle.mq_hub.specs.Inside.Placement.{AreSameButRoom, AreStillReady};
 ghost use Rattle.mq_hub.specs.Inside.TableSteps.{AreHubTables, Proceeds};
 ghost use Rattle.mq_hub.specs.Inside.ConnectRoom.{left, will_messages, HasConnectRoomAt, HasConnected};
@@ -189,6 +189,7 @@ impl<S: FilterStore> Tables<S> {
         conn: Conn,
         key: ClientKey,
         waiting: ByteQueue,
+        now: u64,
         log: &mut ActLog,
     )
         requires hubs { AreHubTables self.old }
@@ -196,7 +197,7 @@ impl<S: FilterStore> Tables<S> {
         requires lasts { is_clean (stage_of conn self.old.connections.connections) ≡ false }
         requires waiting { IfSome (session_at key self.old.sessions.list) (λ t. waiting ≡ t.end.output) }
         requires room { 2 ≤ log.old.room }
-        ensures proceeds { Proceeds when_full (close conn TakenOver) self.old log.old.acts self.new log.new.acts }
+        ensures proceeds { Proceeds when_full (close_at now conn TakenOver) self.old log.old.acts self.new log.new.acts }
         ensures away { up_on key self.new.connections.connections ≡ None }
         ensures connect_end { (c : Connect) → self.old.connections.limits.packets.most < 2 ^ 28
             → HasConnectRoomAt c key (will_messages (will_left TakenOver (stage_of conn self.old.connections.connections))) 0 self.old.sessions.list
@@ -205,6 +206,7 @@ impl<S: FilterStore> Tables<S> {
     {
         let will = self.leave_with(conn, key, waiting, log);
         self.last_will(alloc, when_full, key, will, log);
+        self.mark_left(key, now);
     }
 }
 
@@ -241,10 +243,11 @@ impl<S: FilterStore> HubOver<S> {
         self.tables
             .reserve_connect(key, connect.as_connect(), messages.as_slice())?;
         let when_full = self.config.when_full;
+        let now = self.clock;
         self.tables
-            .take_over_keeping(self.alloc, when_full, other, key, waiting, log);
+            .take_over_keeping(self.alloc, when_full, other, key, waiting, now, log);
         self.tables
-            .resume_when_ready(conn, key, connect, terms, self.clock);
+            .resume_when_ready(conn, key, connect, terms, now);
         log.push(Act::Up(conn, key, true));
         Ok(())
     }

@@ -35,6 +35,8 @@ pub(crate) struct BrokerSession {
     pub(crate) key: ClientKey,
     /// The end that serves the client.
     pub(crate) end: ServerEnd,
+    /// The time at which the client last disconnected, in milliseconds.
+    pub(crate) left_at: u64,
 }
 
 /// A boxed session, so that moving it within the table is cheap.
@@ -83,6 +85,14 @@ impl BoxedSession {
     {
         let session = &mut *self.session;
         mem::swap(&mut session.end, end);
+    }
+
+    /// Stores this time as that of the client's last disconnect.
+    pub(crate) fn mark_left(&mut self, now: u64)
+        ensures { self.new ≡ record self.old { left_at = now } }
+    {
+        let session = &mut *self.session;
+        session.left_at = now;
     }
 }
 

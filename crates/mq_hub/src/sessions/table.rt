@@ -16,7 +16,7 @@ ghost use Rattle.mq_hub.specs.Inside.Output.{CollectsAt};
 ghost use Rattle.mq_hub.specs.Inside.Close.{parted};
 ghost use Rattle.mq_hub.specs.Inside.Placement.{free_of, placed_at, AreSameButRoom, AreStillReady, IsReadyAt, ReadiesAt};
 ghost use Rattle.mq_hub.specs.Inside.ConnectRoom.{left, connected_end, HasConnectRoomAt, IsEnlarged};
-ghost use Rattle.mq_hub.specs.Inside.Sessions.{sessions_of, session_at, with_server, without_key, AreBelow, AreAscending};
+ghost use Rattle.mq_hub.specs.Inside.Sessions.{marked_at, sessions_of, session_at, with_server, without_key, AreBelow, AreAscending};
 
 use crate::sessions::call::Call;
 use crate::sessions::session::{BoxedSession, BrokerSession, free_of, stored_of};
@@ -127,6 +127,16 @@ fn detach_at(list: &mut [BoxedSession], key: ClientKey, output: &mut ByteQueue)
     list[at].detach(output);
 }
 
+// The session of a key stores this time as that of its client's last disconnect.
+fn mark_left_at(list: &mut [BoxedSession], key: ClientKey, now: u64)
+    requires ascending { AreAscending list.old }
+    requires there { IsSome (session_at key list.old) }
+    ensures { list.new ≡ marked_at key now list.old }
+{
+    let at = place(list, key);
+    list[at].mark_left(now);
+}
+
 fn take_at(list: &mut Vec<BoxedSession>, key: ClientKey) -> Option<BrokerSession>
     requires { AreAscending list.old.items }
     ensures list { list.new.items ≡ without_key key list.old.items }
@@ -169,6 +179,12 @@ impl Sessions {
         ensures { result ≡ length self.now.list }
     {
         self.list.len()
+    }
+
+    pub(crate) fn as_slice(&self) -> &[BoxedSession]
+        ensures { result.now ≡ self.now.list }
+    {
+        self.list.as_slice()
     }
 
     pub(crate) fn reserve(&mut self, count: usize) -> Result<(), AllocError>
@@ -244,6 +260,16 @@ impl Sessions {
         ensures room { self.new.room ≡ self.old.room }
     {
         detach_at(self.list.as_mut_slice(), key, output);
+    }
+
+    /// Stores this time as that of a client's last disconnect, if it has a session of this key.
+    pub(crate) fn mark_left(&mut self, key: ClientKey, now: u64)
+        ensures list { self.new.list ≡ marked_at key now self.old.list }
+        ensures room { self.new.room ≡ self.old.room }
+    {
+        if self.get(key).is_some() {
+            mark_left_at(self.list.as_mut_slice(), key, now);
+        }
     }
 
     /// Ends a session (3.1.2.4) and returns it, or `None` if there is none of this key.
