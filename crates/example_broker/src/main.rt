@@ -103,6 +103,8 @@ fn new_hub(alloc: Global, limits: Limits) -> Hub {
             when_full: WhenFull::ClosePublisher,
             connect_within: None,
             session_expiry: None,
+            most_stored: None,
+            most_waiting: None,
         },
     )
 }

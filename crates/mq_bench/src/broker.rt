@@ -81,6 +81,8 @@ pub(crate) fn broker(alloc: Global) -> anyhow::Result<Hub> {
         when_full: WhenFull::ClosePublisher,
         connect_within: None,
         session_expiry: None,
+        most_stored: None,
+        most_waiting: None,
     };
     Ok(Hub::new(alloc, config))
 }

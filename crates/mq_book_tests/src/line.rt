@@ -67,5 +67,7 @@ pub(crate) fn config() -> Result<HubConfig, Fail>
         when_full: WhenFull::ClosePublisher,
         connect_within: None,
         session_expiry: None,
+        most_stored: None,
+        most_waiting: None,
     })
 }

@@ -52,6 +52,8 @@ impl BrokerOptions {
             when_full: WhenFull::DropCopy,
             connect_within: None,
             session_expiry: None,
+            most_stored: None,
+            most_waiting: None,
         }
     }
 }

@@ -63,6 +63,8 @@ fn config() -> Result<HubConfig, Fail>
         when_full: WhenFull::ClosePublisher,
         connect_within: None,
         session_expiry: None,
+        most_stored: None,
+        most_waiting: None,
     })
 }
 

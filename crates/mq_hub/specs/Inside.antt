@@ -19,6 +19,7 @@ pub mod Reception
 pub mod Refinement
 pub mod Requests
 pub mod Retained
+pub mod Rules
 pub mod Sessions
 pub mod Subscriptions
 pub mod TableSteps

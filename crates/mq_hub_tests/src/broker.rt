@@ -36,6 +36,10 @@ pub(crate) struct Kind {
     pub(crate) connect_within: Option<u64>,
     /// The time in milliseconds after which the session of an absent client ends.
     pub(crate) session_expiry: Option<u64>,
+    /// The number of bytes that a session may store.
+    pub(crate) most_stored: Option<u64>,
+    /// The number of bytes of pending output with a copy of QoS 0.
+    pub(crate) most_waiting: Option<u64>,
 }
 
 pub(crate) const WIDE: Kind = Kind {
@@ -47,6 +51,8 @@ pub(crate) const WIDE: Kind = Kind {
     when_full: WhenFull::ClosePublisher,
     connect_within: None,
     session_expiry: None,
+    most_stored: None,
+    most_waiting: None,
 };
 
 const DROPPING: Kind = Kind {
@@ -204,6 +210,8 @@ pub(crate) fn config(alloc: Global, kind: Kind) -> Result<HubConfig, Fail>
         when_full: kind.when_full,
         connect_within: kind.connect_within,
         session_expiry: kind.session_expiry,
+        most_stored: kind.most_stored,
+        most_waiting: kind.most_waiting,
     })
 }
 

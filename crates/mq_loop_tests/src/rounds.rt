@@ -25,6 +25,8 @@ fn new_loop<'a>(alloc: Global, most_owed: usize) -> Result<Loop<'a>, Fail> {
         when_full: WhenFull::ClosePublisher,
         connect_within: None,
         session_expiry: None,
+        most_stored: None,
+        most_waiting: None,
     };
     let limits = LoopLimits {
         share: 4_096,

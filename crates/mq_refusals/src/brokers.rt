@@ -27,6 +27,8 @@ fn config() -> Option<HubConfig>
         when_full: WhenFull::ClosePublisher,
         connect_within: None,
         session_expiry: None,
+        most_stored: None,
+        most_waiting: None,
     })
 }
 

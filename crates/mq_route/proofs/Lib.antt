@@ -1,3 +1,4 @@
+mod StoredBytes
 mod Lines
 mod Uppers
 mod Sessions

@@ -1,9 +1,10 @@
 -- Under ClosePublisher no copy is missed, and only then a copy lacks room.
-use Rattle.std.proofs.Common.{◌≡◌, ℕ, Bool, true, false, cond, eqb, List, [], ◌∷◌, ◌++◌, map, max, refl, sym, ap, ap₂, subst, ◌∙◌, true≢false, append-nil}
+use Rattle.std.proofs.Common.{◌≡◌, ℕ, Bool, true, false, not, ◌&&◌, ◌||◌, cond, eqb, List, [], ◌∷◌, ◌++◌, map, max, Option, None, refl, sym, ap, ap₂, subst, ◌∙◌, true≢false, append-nil}
 use Rattle.std.proofs.lemmas.Bool.{or_parts}
 use Rattle.std.proofs.lemmas.List.{map-append}
 use Rattle.std.proofs.lemmas.List.Concat.{flat_map-append}
 use Rattle.mq_packet.specs.declared.message.Message.{Message}
+use Rattle.mq_end.specs.Both.{has_identifier}
 use Rattle.mq_end.specs.End.{End, Reply, over}
 use Rattle.mq_route.specs.declared.act.Act.{Act}
 use Rattle.mq_route.specs.declared.act.Act.TheVariants as acts
@@ -19,11 +20,10 @@ use Rattle.mq_route.specs.declared.connection_state.ConnectionState.TheVariants.
 use Rattle.mq_route.specs.declared.connection_state.ConnectionTerms.{ConnectionTerms}
 use Rattle.mq_route.specs.Routed.{placed_by, placed, missed_by, missed, marked_by, marked, settled}
 use Rattle.mq_route.specs.Hub.{HubState, stage_of, is_open, held_on, up_on, end_of, with_end}
-use Rattle.mq_route.specs.Work.{Work, begin, said, with_sessions, staged, shut, put_on, put_where, does, drops_copies, is_missed, all_fit, have_room, remove, remove_if}
+use Rattle.mq_route.specs.Work.{Work, begin, said, with_sessions, staged, shut, put_on, put_where, does, drops_copies, leaves, lacks_room, pending_on, publish_bytes, is_missed, all_fit, have_room, remove, remove_if}
 use Rattle.mq_route.specs.Arrives.{new_session}
 use Rattle.mq_route.specs.Step.{Does, told, holding}
 use Rattle.mq_route.specs.Runs.{Episode, Follows, acts_of}
-use Rattle.mq_route.proofs.Books.{and_both}
 use Rattle.mq_route.proofs.Changes.{Freely, freely, Anywhere, anywhere, Debt, owes, nothing, Everywhere, Inner, Sends, sent_where, Outer, Sound, closing, rising}
 use Rattle.mq_route.proofs.Steps.{comes_both, holding_both, tick_both, ended_both}
 use Rattle.mq_route.proofs.Events.{acts_are}
@@ -69,7 +69,7 @@ settled_is c (act ∷ log) e =
 
 -- ---- one more act
 
-module _ (config : HubConfig) (keep : drops_copies config.when_full ≡ false) where
+module _ (config : HubConfig) (keep : drops_copies config.when_full ≡ false) (open : config.most_waiting ≡ None) where
   -- none of these acts is a miss
   abbrev NoMiss : List Act → Type 0
   NoMiss did = (c : ℕ) → missed c did ≡ []
@@ -82,7 +82,10 @@ module _ (config : HubConfig) (keep : drops_copies config.when_full ≡ false) w
 
   never : (key : ℕ) (m : Message) (w : Work) → w.hub.config ≡ config → is_missed key m w.hub ≡ true → ⊥
   never key m w same is =
-      true≢false (sym (and_both (drops_copies w.hub.config.when_full) _ is).0 ∙ ap (λ (c : HubConfig). drops_copies c.when_full) same ∙ keep)
+      let pending = pending_on (up_on key w.hub.connections) w.hub.connections in
+      let kept = ap (λ (d : Bool). d && lacks_room key m w.hub) (ap (λ (c : HubConfig). drops_copies c.when_full) same ∙ keep) in
+      let sent = ap (λ (o : Option ℕ). not (leaves o pending (publish_bytes m)) && not (has_identifier m.qos)) (ap (λ (c : HubConfig). c.most_waiting) same ∙ open) in
+      true≢false (sym is ∙ ap₂ (λ (a b : Bool). a || b) kept sent)
 
   put_calm : Sends Calm
   unfolding put_on

@@ -33,6 +33,8 @@ pub fn broker_config() -> HubConfig
       when_full = ClosePublisher;
       connect_within = None;
       session_expiry = None;
+      most_stored = None;
+      most_waiting = None;
     } }
 {
     HubConfig {
@@ -46,5 +48,7 @@ pub fn broker_config() -> HubConfig
         when_full: WhenFull::ClosePublisher,
         connect_within: None,
         session_expiry: None,
+        most_stored: None,
+        most_waiting: None,
     }
 }

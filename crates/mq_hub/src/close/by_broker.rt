@@ -7,6 +7,7 @@ ghost use Rattle.mq_hub.specs.Inside.Refinement.{Refines};
 
 use crate::acts::ActLog;
 use crate::hub::HubOver;
+use crate::publish::rules::rules_of;
 use mq_route::{Act, Conn, HubClose};
 use mq_topic::FilterStore;
 
@@ -35,9 +36,9 @@ impl<S: FilterStore> HubOver<S> {
     {
         match self.key(conn) {
             Some(key) => {
-                let (when_full, now) = (self.config.when_full, self.clock);
+                let (rules, now) = (rules_of(&self.config), self.clock);
                 self.tables
-                    .close_up(self.alloc, when_full, conn, key, why, now, log);
+                    .close_up(self.alloc, rules, conn, key, why, now, log);
             }
             None => self.close_idle(conn, why, log),
         }

@@ -11,16 +11,18 @@ ghost use Rattle.mq_hub.specs.Inside.Calls.{IsAllowed, Serves, publish_call};
 ghost use Rattle.mq_hub.specs.Inside.Numbers.{stored_at};
 ghost use Rattle.mq_hub.specs.Inside.Output.{Collects};
 ghost use Rattle.mq_hub.specs.Inside.Close.{parted};
-ghost use Rattle.mq_hub.specs.Inside.Placement.{free_of, published, IsReady, Readies};
+ghost use Rattle.mq_hub.specs.Inside.Placement.{published, IsReady, Readies};
+ghost use Rattle.mq_hub.specs.Inside.Rules.{free_of, has_room};
 ghost use Rattle.mq_hub.specs.Inside.ConnectRoom.{left, connected_end};
 
 use crate::connect::resume::connect_end;
+use crate::publish::space::{fits_left, left_of, stored_left};
 use crate::sessions::call::{Call, serve, take_publish};
 use bytes::Bytes;
 use mq_end::{ByteQueue, PacketOutcome, PublishOutcome, PublishRefusal, ServerEnd};
-use mq_flow::{Sender, next_laws};
+use mq_flow::{Sender, message_bytes, next_laws};
 use mq_packet::{BoxedConnect, Connect, Delivery, Message, encoding_laws};
-use mq_topic::ClientKey;
+use mq_topic::{ClientKey, Qos};
 use mq_wire::Text;
 use std::alloc::{AllocError, Global};
 use std::marker::Model;
@@ -213,6 +215,26 @@ pub(crate) fn free_of(end: &ServerEnd) -> usize
         Some(session) => session.sender.left(),
         None => 0,
     }
+}
+
+/// Whether an end that has a session has room for messages: enough free identifiers (2.3.1), and it
+/// may store their bytes.
+pub(crate) fn has_room(end: &ServerEnd, most_stored: Option<u64>, messages: &[Message]) -> bool
+    ensures { end.now.end.known ≡ true → result ≡ has_room most_stored messages.now end.now }
+{
+    let mut free = free_of(end);
+    let mut left = stored_left(end, most_stored);
+    for message in messages {
+        if message.qos != Qos::Q0 {
+            let bytes = message_bytes(message);
+            if free == 0 || !fits_left(left, bytes) {
+                return false;
+            }
+            free -= 1;
+            left = left_of(left, bytes);
+        }
+    }
+    true
 }
 
 /// Returns the number of messages that an end stores (4.3); 0 if it has no session.

@@ -14,12 +14,16 @@ ghost use Rattle.mq_hub.specs.Inside.Calls.{CanServe, ServesAt, publish_call};
 ghost use Rattle.mq_hub.specs.Inside.Numbers.{all_stored};
 ghost use Rattle.mq_hub.specs.Inside.Output.{CollectsAt};
 ghost use Rattle.mq_hub.specs.Inside.Close.{parted};
-ghost use Rattle.mq_hub.specs.Inside.Placement.{free_of, placed_at, AreSameButRoom, AreStillReady, IsReadyAt, ReadiesAt};
+ghost use Rattle.mq_hub.specs.Inside.View.{output_of};
+ghost use Rattle.mq_hub.specs.Inside.Placement.{placed_at, AreSameButRoom, AreStillReady, IsReadyAt, ReadiesAt};
+ghost use Rattle.mq_hub.specs.Inside.Rules.{has_room, left_of, space_of};
 ghost use Rattle.mq_hub.specs.Inside.ConnectRoom.{left, connected_end, HasConnectRoomAt, IsEnlarged};
 ghost use Rattle.mq_hub.specs.Inside.Sessions.{marked_at, sessions_of, session_at, with_server, without_key, AreBelow, AreAscending};
 
+use crate::publish::rules::CopyRules;
+use crate::publish::space::{NO_SPACE, Space, space_of, waiting_left};
 use crate::sessions::call::Call;
-use crate::sessions::session::{BoxedSession, BrokerSession, free_of, stored_of};
+use crate::sessions::session::{BoxedSession, BrokerSession, has_room, stored_of};
 use bytes::Bytes;
 use mq_end::{ByteQueue, PacketOutcome, PublishOutcome, PublishRefusal, ServerEnd};
 use mq_packet::{BoxedConnect, Connect, Delivery, Message};
@@ -203,12 +207,55 @@ impl Sessions {
         self.keys.get(client).copied()
     }
 
-    /// Returns the number of free identifiers of a client's session (2.3.1).
-    pub(crate) fn free(&self, key: ClientKey) -> usize
-        ensures { IfSome (session_at key self.now.list) (λ t. t.end.end.known ≡ true → result ≡ free_of t.end) }
+    /// Returns what a client's session has room for, after this number of bytes is queued.
+    pub(crate) fn space(&self, key: ClientKey, rules: CopyRules, queued: usize) -> Space
+        ensures { IfSome (session_at key self.now.list) (λ t. t.end.end.known ≡ true → result ≡ space_of rules queued t.end) }
     {
         match self.get(key) {
-            Some(session) => free_of(&session.end),
+            Some(session) => space_of(&session.end, rules, queued),
+            None => NO_SPACE,
+        }
+    }
+
+    /// Whether a client's session has room for messages: enough free identifiers (2.3.1), and it may
+    /// store their bytes.
+    pub(crate) fn has_room(
+        &self,
+        key: ClientKey,
+        most_stored: Option<u64>,
+        messages: &[Message],
+    ) -> bool
+        ensures { IfSome (session_at key self.now.list) (λ t. t.end.end.known ≡ true → result ≡ has_room most_stored messages.now t.end) }
+    {
+        match self.get(key) {
+            Some(session) => has_room(&session.end, most_stored, messages),
+            None => false,
+        }
+    }
+
+    /// Returns the number of pending output bytes that a client's session may still have, after this
+    /// number of bytes is queued. `None`: there is no limit.
+    pub(crate) fn waiting_left(
+        &self,
+        key: ClientKey,
+        most_waiting: Option<u64>,
+        queued: usize,
+    ) -> Option<u64>
+        ensures { IfSome (session_at key self.now.list) (λ t. result ≡ left_of most_waiting (queued + length t.end.output)) }
+    {
+        match self.get(key) {
+            Some(session) => waiting_left(&session.end, most_waiting, queued),
+            None => Some(0),
+        }
+    }
+
+    /// Returns the number of pending output bytes of the end of a session; 0 if there is none of
+    /// this key.
+    pub(crate) fn pending(&self, key: ClientKey) -> usize
+        ensures { result ≡ length (output_of key self.now.list) }
+    {
+        match self.get(key) {
+            Some(session) => session.end.output().len(),
             None => 0,
         }
     }

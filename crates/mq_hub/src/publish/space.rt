@@ -1,0 +1,112 @@
+//! What a session has room for.
+
+ghost use Rattle.std.specs.Prelude.{◌≡◌, ◌+◌, length, true};
+ghost use Rattle.mq_flow.specs.Stored.{stored_bytes};
+ghost use Rattle.mq_hub.specs.Inside.Rules.{fits_left, left_of, skips, space_after, space_of};
+
+use crate::publish::rules::CopyRules;
+use crate::sessions::session::free_of;
+use mq_end::{ServerEnd, publish_len};
+use mq_flow::message_bytes;
+use mq_packet::Message;
+use mq_topic::Qos;
+
+/// What a session has room for. `None`: there is no limit.
+#[derive(Clone, Copy)]
+pub(crate) struct Space {
+    /// The number of free packet identifiers (2.3.1).
+    pub(crate) free: usize,
+    /// The number of further bytes that the session may store.
+    pub(crate) stored: Option<u64>,
+    /// The number of further pending output bytes with a copy of QoS 0.
+    pub(crate) waiting: Option<u64>,
+}
+
+/// The space of a client without a session.
+pub(crate) const NO_SPACE: Space = Space {
+    free: 0,
+    stored: Some(0),
+    waiting: Some(0),
+};
+
+/// What a limit leaves.
+pub(crate) fn left_of(most: Option<u64>, used: u64) -> Option<u64>
+    ensures { result ≡ left_of most used }
+{
+    Some(most?.saturating_sub(used))
+}
+
+/// Whether this number fits in what a limit leaves.
+pub(crate) fn fits_left(left: Option<u64>, more: u64) -> bool
+    ensures { result ≡ fits_left left more }
+{
+    match left {
+        Some(left) => more <= left,
+        None => true,
+    }
+}
+
+/// Returns the number of further bytes that an end may store; 0 if it has no session.
+pub(crate) fn stored_left(end: &ServerEnd, most_stored: Option<u64>) -> Option<u64>
+    ensures { end.now.end.known ≡ true → result ≡ left_of most_stored (stored_bytes end.now.end.book) }
+{
+    match end.session() {
+        Some(session) => left_of(most_stored, session.sender.stored_bytes()),
+        None => Some(0),
+    }
+}
+
+/// Returns the number of further pending output bytes, after this number of bytes is queued.
+pub(crate) fn waiting_left(
+    end: &ServerEnd,
+    most_waiting: Option<u64>,
+    queued: usize,
+) -> Option<u64>
+    ensures { result ≡ left_of most_waiting (queued + length end.now.output) }
+{
+    let most = most_waiting?;
+    let left = most.saturating_sub(queued as u64);
+    Some(left.saturating_sub(end.output().len() as u64))
+}
+
+/// Returns what an end that has a session has room for, after this number of bytes is queued.
+pub(crate) fn space_of(end: &ServerEnd, rules: CopyRules, queued: usize) -> Space
+    ensures { end.now.end.known ≡ true → result ≡ space_of rules queued end.now }
+{
+    Space {
+        free: free_of(end),
+        stored: stored_left(end, rules.most_stored),
+        waiting: waiting_left(end, rules.most_waiting, queued),
+    }
+}
+
+impl Space {
+    /// Whether a message is missed.
+    pub(crate) fn skips(&self, rules: CopyRules, message: &Message) -> bool
+        ensures { result ≡ skips rules self.now message.now }
+    {
+        if message.qos == Qos::Q0 {
+            return !fits_left(self.waiting, publish_len(message) as u64);
+        }
+        rules.drops_copies() && (self.free == 0 || !fits_left(self.stored, message_bytes(message)))
+    }
+
+    /// Returns what is left when a message is queued for a connected client.
+    pub(crate) fn after(self, message: &Message) -> Space
+        ensures { result ≡ space_after message.now self }
+    {
+        let waiting = left_of(self.waiting, publish_len(message) as u64);
+        if message.qos == Qos::Q0 {
+            return Space {
+                free: self.free,
+                stored: self.stored,
+                waiting,
+            };
+        }
+        Space {
+            free: self.free.saturating_sub(1),
+            stored: left_of(self.stored, message_bytes(message)),
+            waiting,
+        }
+    }
+}
