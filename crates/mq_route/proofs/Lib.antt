@@ -24,3 +24,4 @@ mod Logging
 mod Reading
 mod Silence
 mod Clients
+mod Bounds
