@@ -39,12 +39,12 @@ module _ {A : Type 0} (F : List HubConnection → A) (firm : Firm F) (v : A) whe
 
   pub lines_inner : Inner Everywhere (λ o w. F w.hub.connections ≡ v)
   lines_inner = record {
-    put = λ k ps o w own h. lines_put k ps o w h;
+    put = λ k ps o w own plain h. lines_put k ps o w h;
     moves = λ key e o w alike h. h;
     marks = λ key now o w h. h;
     took = λ key m t n w h. h;
     willed = λ key m w h. h;
-    placed = λ key m ps c t n w h. sent_where (λ o w. F w.hub.connections ≡ v) lines_put (up_on key w.hub.connections) ps (owes ((key, m) ∷ c) t n) w h;
+    placed = λ key m ps c t n w copy h. sent_where (λ o w. F w.hub.connections ≡ v) lines_put (up_on key w.hub.connections) ps (owes ((key, m) ∷ c) t n) w h;
     missed = λ key m c t n w is h. h;
     subscribed = λ key f q c t n w h. h;
     unsubscribed = λ key f o w h. h;
@@ -88,12 +88,12 @@ has_put c b k ps o w h = h
 
 pub has_inner : (c : ℕ) (b : Bool) → Inner Everywhere (λ o w. has c w.hub.sessions ≡ b)
 has_inner c b = record {
-  put = λ k ps o w own h. has_put c b k ps o w h;
+  put = λ k ps o w own plain h. has_put c b k ps o w h;
   moves = λ key e o w alike h. has_with key e c w.hub.sessions ∙ h;
   marks = λ key now o w h. has_left key now c w.hub.sessions ∙ h;
   took = λ key m t n w h. h;
   willed = λ key m w h. h;
-  placed = λ key m ps d t n w h. sent_where (λ o w. has c w.hub.sessions ≡ b) (has_put c b) (up_on key w.hub.connections) ps (owes ((key, m) ∷ d) t n) w h;
+  placed = λ key m ps d t n w copy h. sent_where (λ o w. has c w.hub.sessions ≡ b) (has_put c b) (up_on key w.hub.connections) ps (owes ((key, m) ∷ d) t n) w h;
   missed = λ key m d t n w is h. h;
   subscribed = λ key f q c t n w h. h;
   unsubscribed = λ key f o w h. h;

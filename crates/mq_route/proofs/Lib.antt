@@ -24,4 +24,5 @@ mod Logging
 mod Reading
 mod Silence
 mod Clients
+mod PendingOutput
 mod Bounds

@@ -210,12 +210,12 @@ module _ (config : HubConfig) (fits : Bool) (w : Work) (is : w.hub.config ≡ co
   inner : Inner Everywhere Few
   unfolding dropped_by
   inner = record {
-    put = λ k ps o v own r. put_few k ps o v r;
+    put = λ k ps o v own plain r. put_few k ps o v r;
     moves = λ key e o v alike r. r;
     marks = λ key now o v r. r;
     took = λ key m t n v r. few_more v.did (acts.Took key m) refl r;
     willed = λ key m v r. few_more v.did (acts.Will key m) refl r;
-    placed = λ key m ps c t n v r.
+    placed = λ key m ps c t n v copy r.
         let u = put_where (up_on key v.hub.connections) ps v in
         few_more u.did (acts.Placed key m) refl (sent_where Few put_few (up_on key v.hub.connections) ps (owes ((key, m) ∷ c) t n) v r);
     missed = λ key m c t n v is r. few_more v.did (acts.Missed key m) refl r;
@@ -268,7 +268,7 @@ module _ (config : HubConfig) (fits : Bool) (w : Work) (is : w.hub.config ≡ co
         drops_few key (closing k why key terms v).did (loses config fits w is other k why key terms last_activity v near stage m has short) r;
     removes = λ key v s none r. removes_few key v r;
     begins = λ client v s r. begins_few client v r;
-    rises = λ k key terms last_activity move present v own s known free none there up clean received r. rises_few k key terms last_activity move present v r;
+    rises = λ k key terms last_activity move present v own s known free none there up clean received plain r. rises_few k key terms last_activity move present v r;
   }
 
 few_comes : (config : HubConfig) (limits : Bounds) (k : Conn) (b : List ℕ) (w w2 : Work) (comes : Comes limits k b w w2) → Sound w.hub → w.hub.config ≡ config → (c : ℕ) → is_in c (dropped w2.did) ≡ true

@@ -94,12 +94,12 @@ module _ (config : HubConfig) (keep : drops_copies config.when_full ≡ false) (
   inner : Inner Everywhere Calm
   unfolding missed_by
   inner = record {
-    put = λ k ps o w own r. put_calm k ps o w r;
+    put = λ k ps o w own plain r. put_calm k ps o w r;
     moves = λ key e o w alike r. r;
     marks = λ key now o w r. r;
     took = λ key m t n w r. (r.0, more w.did (acts.Took key m) (λ c. refl) r.1);
     willed = λ key m w r. (r.0, more w.did (acts.Will key m) (λ c. refl) r.1);
-    placed = λ key m ps c t n w r.
+    placed = λ key m ps c t n w copy r.
         let v = put_where (up_on key w.hub.connections) ps w in
         let sent = sent_where Calm put_calm (up_on key w.hub.connections) ps (owes ((key, m) ∷ c) t n) w r in
         (sent.0, more v.did (acts.Placed key m) (λ c. refl) sent.1);
@@ -149,7 +149,7 @@ module _ (config : HubConfig) (keep : drops_copies config.when_full ≡ false) (
     drops = λ k why key terms last_activity fits w near stage m has short r. drops_calm key (closing k why key terms w) r;
     removes = λ key w s none r. removes_calm key w r;
     begins = λ client w s r. begins_calm client w r;
-    rises = λ k key terms last_activity move present w own s known free none there up clean received r. rises_calm k key terms last_activity move present w r;
+    rises = λ k key terms last_activity move present w own s known free none there up clean received plain r. rises_calm k key terms last_activity move present w r;
   }
 
   -- ---- events

@@ -34,11 +34,11 @@ on_conn-append n (x ∷ xs) ys = go (same_conn x.0 n) (on_conn-append n xs ys)
     go true ih = ap (λ (l : List Packet). x.1 ∷ l) ih
     go false ih = ih
 
-on_conn-own : (k n : Conn) (ps : List Packet) → same_conn k n ≡ true → on_conn n (map (λ p. (k, p)) ps) ≡ ps
+pub on_conn-own : (k n : Conn) (ps : List Packet) → same_conn k n ≡ true → on_conn n (map (λ p. (k, p)) ps) ≡ ps
 on_conn-own k n [] e = refl
 on_conn-own k n (p ∷ ps) e = cond-true (same_conn k n) (p ∷ on_conn n (map (λ p. (k, p)) ps)) (on_conn n (map (λ p. (k, p)) ps)) e ∙ ap (λ (l : List Packet). p ∷ l) (on_conn-own k n ps e)
 
-on_conn-other : (k n : Conn) (ps : List Packet) → same_conn k n ≡ false → on_conn n (map (λ p. (k, p)) ps) ≡ []
+pub on_conn-other : (k n : Conn) (ps : List Packet) → same_conn k n ≡ false → on_conn n (map (λ p. (k, p)) ps) ≡ []
 on_conn-other k n [] e = refl
 on_conn-other k n (p ∷ ps) e = cond-false (same_conn k n) (p ∷ on_conn n (map (λ p. (k, p)) ps)) (on_conn n (map (λ p. (k, p)) ps)) e ∙ on_conn-other k n ps e
 
@@ -75,12 +75,12 @@ module _ (n : Conn) (base : List ℕ) where
 
   pub inner : Inner Everywhere Grows
   inner = record {
-    put = λ k ps o w own r. put_grows k ps o w r;
+    put = λ k ps o w own plain r. put_grows k ps o w r;
     moves = λ key e o w alike r. r;
     marks = λ key now o w r. r;
     took = λ key m t c w r. r;
     willed = λ key m w r. r;
-    placed = λ key m ps d t c w r. sent_where Grows put_grows (up_on key w.hub.connections) ps (owes ((key, m) ∷ d) t c) w r;
+    placed = λ key m ps d t c w copy r. sent_where Grows put_grows (up_on key w.hub.connections) ps (owes ((key, m) ∷ d) t c) w r;
     missed = λ key m d t c w is r. r;
     subscribed = λ key f q d t c w r. r;
     unsubscribed = λ key f o w r. r;
@@ -122,11 +122,11 @@ module _ (n : Conn) (base : List ℕ) where
     drops = λ k why key terms last_activity fits w near stage m has short r. r;
     removes = λ key w s none r. remove_grows key w r;
     begins = λ client w s r. begins_grows client w r;
-    rises = λ k key terms last_activity move present w own s known free none there up clean received r. rises_grows k key terms last_activity move w r;
+    rises = λ k key terms last_activity move present w own s known free none there up clean received plain r. rises_grows k key terms last_activity move w r;
   }
 
 -- the connection's output is taken
-emptied_here : (n : Conn) (xs : List HubConnection) → waiting_on n (with_connection emptied n xs) ≡ []
+pub emptied_here : (n : Conn) (xs : List HubConnection) → waiting_on n (with_connection emptied n xs) ≡ []
 emptied_here n [] = refl
 emptied_here n (x ∷ xs) = go (is_connection n x) refl (emptied_here n xs)
   where
@@ -145,12 +145,12 @@ Any o w = Unit {0}
 
 pub any_inner : Inner Everywhere Any
 any_inner = record {
-  put = λ k ps o w own r. tt;
+  put = λ k ps o w own plain r. tt;
   moves = λ key e o w alike r. tt;
   marks = λ key now o w r. tt;
   took = λ key m t c w r. tt;
   willed = λ key m w r. tt;
-  placed = λ key m ps d t c w r. tt;
+  placed = λ key m ps d t c w copy r. tt;
   missed = λ key m d t c w is r. tt;
   subscribed = λ key f q d t c w r. tt;
   unsubscribed = λ key f o w r. tt;
@@ -166,7 +166,7 @@ any_outer = record {
   drops = λ k why key terms last_activity fits w near stage m has short r. tt;
   removes = λ key w s none r. tt;
   begins = λ client w s r. tt;
-  rises = λ k key terms last_activity move present w own s known free none there up clean received r. tt;
+  rises = λ k key terms last_activity move present w own s known free none there up clean received plain r. tt;
 }
 
 -- ---- events
@@ -175,7 +175,7 @@ any_outer = record {
 abbrev pub Leaves : Conn → HubState → HubEvent → HubReply → Work → Type 0
 Leaves n h e r w = Sound w.hub × (knows n w.hub.connections ≡ true) × (cond (collects n e) r.output [] ++ waiting_on n w.hub.connections ≡ waiting_on n h.connections ++ encodings (on_conn n w.sent))
 
-waiting_opened : (n k : Conn) (at : ℕ) (xs : List HubConnection) → knows n xs ≡ true → waiting_on n (xs ++ newcomer k at ∷ []) ≡ waiting_on n xs
+pub waiting_opened : (n k : Conn) (at : ℕ) (xs : List HubConnection) → knows n xs ≡ true → waiting_on n (xs ++ newcomer k at ∷ []) ≡ waiting_on n xs
 waiting_opened n k at [] h = absurd cc
 waiting_opened n k at (x ∷ xs) h = go (is_connection n x) refl (waiting_opened n k at xs)
   where
@@ -185,7 +185,7 @@ waiting_opened n k at (x ∷ xs) h = go (is_connection n x) refl (waiting_opened
     go false e ih =
         ap (λ (b : List ℕ). cond (is_connection n x) x.waiting b) (ih (sym (ap (λ (t : Bool). t || knows n xs) e) ∙ h))
 
-knows_opened : (n k : Conn) (at : ℕ) (xs : List HubConnection) → knows n xs ≡ true → knows n (xs ++ newcomer k at ∷ []) ≡ true
+pub knows_opened : (n k : Conn) (at : ℕ) (xs : List HubConnection) → knows n xs ≡ true → knows n (xs ++ newcomer k at ∷ []) ≡ true
 knows_opened n k at [] h = absurd cc
 knows_opened n k at (x ∷ xs) h = go (is_connection n x) (knows_opened n k at xs) h
   where

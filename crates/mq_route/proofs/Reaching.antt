@@ -101,12 +101,12 @@ module _ (n : Conn) (h : HubState) where
 
   inner : Inner IsOther Quiet
   inner = record {
-    put = put_quiet;
+    put = λ k ps o w own plain r. put_quiet k ps o w own r;
     moves = λ key e o w alike r. r;
     marks = λ key now o w r. r;
     took = λ key m t c w r. more (acts.Took key m) (owes [] ((key, m) ∷ t) c) nothing w r;
     willed = λ key m w r. more (acts.Will key m) nothing nothing w r;
-    placed = λ key m ps d t c w r. placed_quiet key m ps nothing nothing w r;
+    placed = λ key m ps d t c w copy r. placed_quiet key m ps nothing nothing w r;
     missed = λ key m d t c w is r. more (acts.Missed key m) nothing nothing w r;
     subscribed = λ key f q d t c w r. more (acts.Subscribed key f q) nothing nothing w r;
     unsubscribed = λ key f o w r. more (acts.Unsubscribed key f) nothing nothing w r;
@@ -180,7 +180,7 @@ module _ (n : Conn) (h : HubState) where
     drops = λ k why key terms last_activity fits w near stage m has short r. more (acts.WillDropped key) nothing nothing (closing k why key terms w) r;
     removes = λ key w s none r. remove_quiet true key w r;
     begins = λ client w s r. begins_quiet client w r;
-    rises = λ k key terms last_activity move present w own s known fresh none there up clean received r.
+    rises = λ k key terms last_activity move present w own s known fresh none there up clean received plain r.
         rises_quiet k key terms last_activity move present w own (upper_risen k key terms last_activity w.hub.connections s.apart known (subst (λ t. (c : ℕ) → is_for c t ≡ false) (sym fresh) (λ c. refl)) none) r;
   }
 

@@ -50,12 +50,12 @@ module _ (c : HubConfig) where
 
   pub same_inner : Inner Everywhere Same
   same_inner = record {
-    put = λ k ps o w own r. same_put k ps o w r;
+    put = λ k ps o w own plain r. same_put k ps o w r;
     moves = λ key e o w alike r. r;
     marks = λ key now o w r. r;
     took = λ key m t n w r. r;
     willed = λ key m w r. r;
-    placed = λ key m ps d t n w r. sent_where Same same_put (up_on key w.hub.connections) ps (owes ((key, m) ∷ d) t n) w r;
+    placed = λ key m ps d t n w copy r. sent_where Same same_put (up_on key w.hub.connections) ps (owes ((key, m) ∷ d) t n) w r;
     missed = λ key m d t n w is r. r;
     subscribed = λ key f q d t n w r. r;
     unsubscribed = λ key f o w r. r;
@@ -87,7 +87,7 @@ module _ (c : HubConfig) where
     drops = λ k why key terms last_activity fits w near stage m has short r. r;
     removes = λ key w s none r. same_removed true key w r;
     begins = λ client w s r. same_begun client w r;
-    rises = λ k key terms last_activity move present w own s known fresh none there up clean received r. same_risen k key terms last_activity move present w r;
+    rises = λ k key terms last_activity move present w own s known fresh none there up clean received plain r. same_risen k key terms last_activity move present w r;
   }
 
 pub same_event : (h : HubState) (e : HubEvent) (r : HubReply) (w : Work) → Does h e r w → Sound h → w.hub.config ≡ h.config
@@ -125,12 +125,12 @@ module _ (n : Conn) (A : Type 0) (kept : List ℕ) where
 
   still_inner : Inner Everywhere Still
   still_inner = record {
-    put = λ k ps o w own r. put_still k ps o w r;
+    put = λ k ps o w own plain r. put_still k ps o w r;
     moves = λ key e o w alike r. r;
     marks = λ key now o w r. r;
     took = λ key m t c w r. r;
     willed = λ key m w r. r;
-    placed = λ key m ps d t c w r. sent_where Still put_still (up_on key w.hub.connections) ps (owes ((key, m) ∷ d) t c) w r;
+    placed = λ key m ps d t c w copy r. sent_where Still put_still (up_on key w.hub.connections) ps (owes ((key, m) ∷ d) t c) w r;
     missed = λ key m d t c w is r. r;
     subscribed = λ key f q d t c w r. r;
     unsubscribed = λ key f o w r. r;
@@ -189,7 +189,7 @@ module _ (n : Conn) (A : Type 0) (kept : List ℕ) where
     drops = λ k why key terms last_activity fits w near stage m has short r. r;
     removes = λ key w s none r. removed_still true key w r;
     begins = λ client w s r. begun_still client w r;
-    rises = λ k key terms last_activity move present w own s known fresh none there up clean received r. risen_still k key terms last_activity move present w fresh r;
+    rises = λ k key terms last_activity move present w own s known fresh none there up clean received plain r. risen_still k key terms last_activity move present w fresh r;
   }
 
 -- ---- bytes of a connection

@@ -259,12 +259,12 @@ module _ (store : StoreLaws) where
 
     pub inner : Inner Everywhere Tells
     inner = record {
-      put = λ k ps o w own a. put_tells k ps o w a;
+      put = λ k ps o w own plain a. put_tells k ps o w a;
       moves = λ key e o w alike a. a;
       marks = λ key now o w a. a;
       took = λ key m t n w a. took_tells key m w a;
       willed = λ key m w a. willed_tells key m w a;
-      placed = λ key m ps due t n w a.
+      placed = λ key m ps due t n w copy a.
           let to = up_on key w.hub.connections in
           placed_tells key m due (put_where to ps w) (sent_where Tells put_tells to ps (owes ((key, m) ∷ due) t n) w a);
       missed = λ key m due t n w is a. missed_tells key m due w a;
@@ -345,7 +345,7 @@ module _ (store : StoreLaws) where
       drops = λ k why key terms last_activity fits w near stage m has short a. dropped_tells key (closing k why key terms w) a;
       removes = λ key w s none a. removes_tells key w a;
       begins = λ client w s a. begins_tells client w a;
-      rises = λ k key terms last_activity move present w own s known fresh none there up clean received a. rises_tells k key terms last_activity move present w s known (subst IsIdle (sym fresh) (λ c. refl)) none a;
+      rises = λ k key terms last_activity move present w own s known fresh none there up clean received plain a. rises_tells k key terms last_activity move present w s known (subst IsIdle (sym fresh) (λ c. refl)) none a;
     }
 
   -- ---- events

@@ -49,12 +49,12 @@ module _ (L : List Conn) where
   inner : Inner Everywhere Few
   unfolding silent_by
   inner = record {
-    put = λ k ps o w own r. put_few k ps o w r;
+    put = λ k ps o w own plain r. put_few k ps o w r;
     moves = λ key e o w alike r. r;
     marks = λ key now o w r. r;
     took = λ key m t n w r. few_more w.did (acts.Took key m) refl r;
     willed = λ key m w r. few_more w.did (acts.Will key m) refl r;
-    placed = λ key m ps c t n w r.
+    placed = λ key m ps c t n w copy r.
         let v = put_where (up_on key w.hub.connections) ps w in
         few_more v.did (acts.Placed key m) refl (sent_where Few put_few (up_on key w.hub.connections) ps (owes ((key, m) ∷ c) t n) w r);
     missed = λ key m c t n w is r. few_more w.did (acts.Missed key m) refl r;
@@ -102,7 +102,7 @@ module _ (L : List Conn) where
     drops = λ k why key terms last_activity fits w near stage m has short r. drops_few key (closing k why key terms w) r;
     removes = λ key w s none r. removes_few key w r;
     begins = λ client w s r. begins_few client w r;
-    rises = λ k key terms last_activity move present w own s known free none there up clean received r. rises_few k key terms last_activity move present w r;
+    rises = λ k key terms last_activity move present w own s known free none there up clean received plain r. rises_few k key terms last_activity move present w r;
   }
 
   ways : Ways May

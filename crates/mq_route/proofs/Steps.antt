@@ -16,7 +16,7 @@ use Rattle.mq_end.specs.declared.reason.CloseReason.TheVariants as reasons
 use Rattle.mq_end.specs.declared.state.State.TheVariants.{Connected}
 use Rattle.mq_end.specs.End.{End, renewed}
 use Rattle.mq_end.specs.KeepAlive.{is_late}
-use Rattle.mq_end.specs.Server.{server_gets}
+use Rattle.mq_end.specs.Server.{opens, server_gets}
 use Rattle.mq_route.specs.declared.act.Act.TheVariants as acts
 use Rattle.mq_route.specs.declared.conn.Conn.{Conn}
 use Rattle.mq_route.specs.declared.close.HubClose.{HubClose}
@@ -25,7 +25,7 @@ use Rattle.mq_route.specs.declared.connection_state.ConnectionState.{ConnectionS
 use Rattle.mq_route.specs.declared.connection_state.ConnectionState.TheVariants.{AwaitingConnect, ConnectedAs, Closed}
 use Rattle.mq_route.specs.declared.connection_state.ConnectionTerms.{ConnectionTerms}
 use Rattle.mq_route.specs.Routed.{same_conn}
-use Rattle.mq_route.specs.Hub.{HubState, HubSession, HubConnection, new_end, no_end, stage_of, with_connection, is_open, key_on, is_clean, is_for, up_on, end_of, key_of}
+use Rattle.mq_route.specs.Hub.{HubState, HubSession, HubConnection, new_end, no_end, stage_of, with_connection, is_open, key_on, is_clean, is_for, up_on, end_of, end_on, key_of}
 use Rattle.mq_route.specs.Welcome.{client_of, refusal, refusal_by_tables, is_unavailable, ends_on}
 use Rattle.mq_route.specs.Work.{Work, begin, said, with_connections, staged, shut, put_on, does, have_room, remove, will_after, leaves_behind, shut_down, close}
 use Rattle.mq_route.specs.Arrives.{Growth, due, answers, answers_all, replies, greeting, terms_of, resume_session, new_session, start_session, take_over, goes_on, accept_connect, on_connect, on_first_packet, dispatch_packet, touched, touched_on, arrives, noted, takes, closes_by, broken, on_malformed}
@@ -33,7 +33,7 @@ use Rattle.mq_route.specs.Step.{holding, Comes, Arrives, Waits, Breaks, Starves,
 use Rattle.mq_route.proofs.Lines.{one_conn, upper, up_is, upper_none, conn_in, Mild, stage_here, fresh_known}
 use Rattle.mq_route.proofs.Uppers.{IsIdle, unless, upper_at, upper_stage}
 use Rattle.mq_route.proofs.Sessions.{has, has_new, end_new, key_there}
-use Rattle.mq_route.proofs.Ends.{stays_up, greets}
+use Rattle.mq_route.proofs.Ends.{AreAnswers, faulted_answers, gets_answers, stays_up, greets}
 use Rattle.mq_route.proofs.Changes.{Debt, owes, nothing, Inner, Outer, Ways, Nearby, Sound, closing, not_up, is_tied, is_idle, sound_inner, sound_mild, sound_holding, sound_gets, sound_shuts, sound_closes, sound_removes, sound_begins, sound_rises, upper_shut, unless_itself}
 use Rattle.mq_route.proofs.Walk.{last_will_keeps, answers_all_keeps}
 use Rattle.mq_route.proofs.Frames.{stage_firm, upper_firm, lines_inner, lines_closed, closed_shut, closed_other, has_closed}
@@ -91,12 +91,12 @@ module _ {IsOwn : Conn → Type 0} (R : Debt → Work → Type 0) (May : HubClos
 
   pub both : Inner IsOwn Both
   both = record {
-    put = λ k ps o w own h. (sound.put k ps o w own h.0, inner.put k ps o w own h.1);
+    put = λ k ps o w own plain h. (sound.put k ps o w own plain h.0, inner.put k ps o w own plain h.1);
     moves = λ key e o w alike h. (sound.moves key e o w alike h.0, inner.moves key e o w alike h.1);
     marks = λ key now o w h. (sound.marks key now o w h.0, inner.marks key now o w h.1);
     took = λ key m t n w h. (h.0, inner.took key m t n w h.1);
     willed = λ key m w h. (h.0, inner.willed key m w h.1);
-    placed = λ key m ps c t n w h. (sound.placed key m ps c t n w h.0, inner.placed key m ps c t n w h.1);
+    placed = λ key m ps c t n w copy h. (sound.placed key m ps c t n w copy h.0, inner.placed key m ps c t n w copy h.1);
     missed = λ key m c t n w is h. (h.0, inner.missed key m c t n w is h.1);
     subscribed = λ key f q c t n w h. (h.0, inner.subscribed key f q c t n w h.1);
     unsubscribed = λ key f o w h. (h.0, inner.unsubscribed key f o w h.1);
@@ -169,13 +169,13 @@ module _ {IsOwn : Conn → Type 0} (R : Debt → Work → Type 0) (May : HubClos
         let Stays : Debt → Work → Type 0 = λ o w. stage_of k w.hub.connections ≡ ConnectedAs key terms last_activity in
         let still = lines_inner (stage_of k) (stage_firm k) (ConnectedAs key terms last_activity) in
         after_open k key terms last_activity p (answers_all k key r.happenings (does key (server_gets p) w))
-        (answers_all_keeps Stays still key k r.happenings ((key, p) ∷ []) (server_gets p) w g.told (λ j up. tt) stage)
-        (answers_all_keeps Both both key k r.happenings ((key, p) ∷ []) (server_gets p) w g.told is_home
+        (answers_all_keeps Stays still key k r.happenings ((key, p) ∷ []) (server_gets p) w g.told (λ j up. tt) (gets_answers p e) stage)
+        (answers_all_keeps Both both key k r.happenings ((key, p) ∷ []) (server_gets p) w g.told is_home (gets_answers p e)
         (sound_gets key r.end w g.state g.clean h.0, outer.gets key p w h.0 up_tied.0 up_tied.1 g h.1))
 
     after_replies : (c : Option CloseReason) → (server_gets p e).close ≡ c → After (Some key) k p (replies k key (server_gets p) c fits w)
     unfolding replies
-    after_replies (Some reason) is = after_closed (Some key) k p (Own reason) fits (put_on k (server_gets p e).out w) (nearby.put fits k (server_gets p e).out w near) (ways.own reason) (both.put k (server_gets p e).out nothing w own h)
+    after_replies (Some reason) is = after_closed (Some key) k p (Own reason) fits (put_on k (server_gets p e).out w) (nearby.put fits k (server_gets p e).out w near) (ways.own reason) (both.put k (server_gets p e).out nothing w own (gets_answers p e) h)
     after_replies None is =
         cond_both (have_room (due key w.hub (server_gets p e).happenings) w.hub) (answers_all k key (server_gets p e).happenings (does key (server_gets p) w)) (close k TargetFull fits w) (After (Some key) k p)
         (λ room. after_gets is) (λ short. after_closed (Some key) k p TargetFull fits w near (full short) h)
@@ -193,7 +193,7 @@ module _ {IsOwn : Conn → Type 0} (R : Debt → Work → Type 0) (May : HubClos
       let free : IsIdle (stage_of k w.hub.connections) = subst IsIdle (sym fresh) (λ c. refl) in
       subst (λ (told : List Happening). Both nothing (answers_all k key told (does key (greeting c) (staged k (ConnectedAs key (terms_of c) now) w)))) (sym g.told) (
         sound_rises k key (terms_of c) now (greeting c) g.present w h.0 known free none there g.state g.clean,
-        outer.rises k key (terms_of c) now (greeting c) g.present w own h.0 known fresh none there g.state g.clean g.received h.1,
+        outer.rises k key (terms_of c) now (greeting c) g.present w own h.0 known fresh none there g.state g.clean g.received (gets_answers (packets.Connect c) (opens e).end) h.1,
       )
 
   greet_new_both : (k : Conn) (c : Connect) (client : List ℕ) (w : Work) → IsOwn k → stage_of k w.hub.connections ≡ AwaitingConnect → (not c.clean_session && eqb (length c.client_id) 0) ≡ false → Both nothing w → Both nothing (start_session k c client w)
@@ -243,7 +243,7 @@ module _ {IsOwn : Conn → Type 0} (R : Debt → Work → Type 0) (May : HubClos
   unfolding on_connect
   welcomes_both k c fits w own near fresh h (Some code) e =
       let out = packets.ConnAck (connacks.Refused code) ∷ [] in
-      close_both k (Own (reasons.Refused code)) fits (put_on k out w) (nearby.put fits k out w near) (ways.own (reasons.Refused code)) (both.put k out nothing w own h)
+      close_both k (Own (reasons.Refused code)) fits (put_on k out w) (nearby.put fits k out w near) (ways.own (reasons.Refused code)) (both.put k out nothing w own refl h)
   welcomes_both k c fits w own near fresh h None e =
       admit_both k c (client_of c w.hub.sessions) fits w own near fresh (accepted c w.hub e) h (key_of (client_of c w.hub.sessions) w.hub.sessions) refl
 
@@ -278,13 +278,16 @@ module _ {IsOwn : Conn → Type 0} (R : Debt → Work → Type 0) (May : HubClos
       let v = arrives k p g w in
       (a.0, outer.noted (noted (key_on (stage_of k w.hub.connections)) (is_open (stage_of k v.hub.connections)) p) v a.1)
 
+  broken_answers : (k : Conn) (fault : DecodeFault) (w : Work) → AreAnswers (broken k fault w).out
+  broken_answers k fault w = faulted_answers fault (end_on (stage_of k w.hub.connections) w.hub.sessions)
+
   pub breaks_both : (k : Conn) (fault : DecodeFault) (fits : Bool) (w : Work) → IsOwn k → Near fits w → Both nothing w → Both nothing (on_malformed k fault fits w)
   unfolding on_malformed
   breaks_both k fault fits w own near h = go (broken k fault w).close
     where
       go : (c : Option CloseReason) → Both nothing (closes_by k c fits (put_on k (broken k fault w).out w))
-      go None = both.put k (broken k fault w).out nothing w own h
-      go (Some reason) = close_both k (Own reason) fits (put_on k (broken k fault w).out w) (nearby.put fits k (broken k fault w).out w near) (ways.own reason) (both.put k (broken k fault w).out nothing w own h)
+      go None = both.put k (broken k fault w).out nothing w own (broken_answers k fault w) h
+      go (Some reason) = close_both k (Own reason) fits (put_on k (broken k fault w).out w) (nearby.put fits k (broken k fault w).out w near) (ways.own reason) (both.put k (broken k fault w).out nothing w own (broken_answers k fault w) h)
 
   -- ---- bytes, ticks, and the end of a connection
 

@@ -146,12 +146,12 @@ module _ (log : List Act) (before : List (ℕ × Packet)) where
   pub inner : Inner Everywhere Hands
   unfolding taken_by
   inner = record {
-    put = λ k ps o w own r. put_hands k ps o w r;
+    put = λ k ps o w own plain r. put_hands k ps o w r;
     moves = λ key e o w alike r. ends_hands key e ((before ++ w.came) ++ o.came) o.taken (log ++ w.did) w.hub alike.2 r;
     marks = λ key now o w r. marks_hands key now ((before ++ w.came) ++ o.came) o.taken (log ++ w.did) w.hub r;
     took = λ key m t n w r. took_hands key m t ((before ++ w.came) ++ n) w.did w.hub r;
     willed = λ key m w r. idle_act (acts.Will key m) ((before ++ w.came) ++ []) [] w.did w.hub (λ c. refl) r;
-    placed = λ key m ps d t n w r.
+    placed = λ key m ps d t n w copy r.
         let v = put_where (up_on key w.hub.connections) ps w in
         idle_act (acts.Placed key m) ((before ++ v.came) ++ n) t v.did v.hub (λ c. refl) (sent_where Hands put_hands (up_on key w.hub.connections) ps (owes ((key, m) ∷ d) t n) w r);
     missed = λ key m d t n w is r. idle_act (acts.Missed key m) ((before ++ w.came) ++ n) t w.did w.hub (λ c. refl) r;
@@ -285,7 +285,7 @@ module _ (log : List Act) (before : List (ℕ × Packet)) where
     drops = λ k why key terms last_activity fits w near stage m has short r. drops_hands key (closing k why key terms w) r;
     removes = λ key w s none r. removes_hands key w r;
     begins = begins_hands;
-    rises = λ k key terms last_activity move present w own s known free none there up clean received r. rises_hands k key terms last_activity move present w received r;
+    rises = λ k key terms last_activity move present w own s known free none there up clean received plain r. rises_hands k key terms last_activity move present w received r;
   }
 
 -- ---- events

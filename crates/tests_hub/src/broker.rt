@@ -3,7 +3,7 @@
 ghost use Rattle.std.specs.Prelude.{◌≡◌, ◌<◌, None, IfOk};
 
 use crate::told::{Happens, Row, all_told, counted, event, listed, told};
-use crate::{dropping, expiring, rows, silent};
+use crate::{dropping, expiring, limits, rows, silent};
 use bytes::Bytes;
 use mq_decode::Limits;
 use mq_end::BoxedList;
@@ -65,7 +65,7 @@ const DROPPING: Kind = Kind {
 pub(crate) type Table = (&'static str, Kind, &'static [Row]);
 
 /// All tables of rows.
-pub(crate) const TABLES: [Table; 30] = [
+pub(crate) const TABLES: [Table; 35] = [
     ("refused", WIDE, &rows::REFUSED),
     ("routed", WIDE, &rows::ROUTED),
     ("level", WIDE, &rows::LEVEL),
@@ -111,6 +111,47 @@ pub(crate) const TABLES: [Table; 30] = [
             ..WIDE
         },
         &expiring::EXPIRING,
+    ),
+    (
+        "stored_dropping",
+        Kind {
+            most_stored: Some(5),
+            when_full: WhenFull::DropCopy,
+            ..WIDE
+        },
+        &limits::STORED_DROPPING,
+    ),
+    (
+        "stored_closing",
+        Kind {
+            most_stored: Some(5),
+            ..WIDE
+        },
+        &limits::STORED_CLOSING,
+    ),
+    (
+        "waiting",
+        Kind {
+            most_waiting: Some(20),
+            ..WIDE
+        },
+        &limits::WAITING,
+    ),
+    (
+        "own_answer",
+        Kind {
+            most_waiting: Some(18),
+            ..WIDE
+        },
+        &limits::OWN_ANSWER,
+    ),
+    (
+        "retained_waiting",
+        Kind {
+            most_waiting: Some(30),
+            ..WIDE
+        },
+        &limits::RETAINED_WAITING,
     ),
     (
         "crowded",

@@ -10,6 +10,8 @@ mod expiring;
 #[cfg(test)]
 mod full;
 #[cfg(test)]
+mod limits;
+#[cfg(test)]
 mod portions;
 #[cfg(test)]
 mod rows;

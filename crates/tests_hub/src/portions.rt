@@ -129,25 +129,25 @@ fn portion(hub: &mut Hub, piece: &[u8], most_acts: usize) -> Result<(usize, usiz
 
 fn portions(alloc: Global) -> Result<[(usize, usize); 3], Fail> {
     let kind = Kind {
-        max_conns: 100,
-        max_sessions: 100,
+        max_conns: 1_000,
+        max_sessions: 1_000,
         ..WIDE
     };
     let mut hub = Hub::new(alloc, config(alloc, kind)?);
-    subscribers(alloc, &mut hub, 100)?;
+    subscribers(alloc, &mut hub, 1_000)?;
     let piece = publishes(alloc, 2_000)?;
-    let one = portion(&mut hub, piece.as_slice(), 100)?;
-    let two = portion(&mut hub, behind(piece.as_slice(), one.0), 102)?;
+    let one = portion(&mut hub, piece.as_slice(), 1_000)?;
+    let two = portion(&mut hub, behind(piece.as_slice(), one.0), 1_002)?;
     let three = portion(&mut hub, behind(piece.as_slice(), two.0), 0)?;
     Ok([one, two, three])
 }
 
-// A piece of 2,000 messages for 100 clients: a portion ends with the message that reaches its
+// A piece of 2,000 messages for 1,000 clients: a portion ends with the message that reaches its
 // number of acts.
 #[test]
 fn a_portion_ends_with_the_packet_that_reaches_its_acts(rt: HostRuntime) -> Result<(), Fail> {
     let portions = portions(rt.alloc())?;
-    assert_eq!(rt; portions, [(6, 101), (12, 202), (6, 101)]);
+    assert_eq!(rt; portions, [(6, 1_001), (12, 2_002), (6, 1_001)]);
     Ok(())
 }
 
