@@ -9,13 +9,13 @@ use Rattle.mq_topic.specs.Rows.{Row}
 use Rattle.mq_route.specs.declared.act.Act.{Act}
 use Rattle.mq_route.specs.declared.close.HubClose.{HubClose}
 use Rattle.mq_route.specs.declared.config.HubConfig.{HubConfig}
-use Rattle.mq_route.specs.declared.config.WhenFull.{WhenFull}
 use Rattle.mq_route.specs.declared.conn.Conn.{Conn}
 use Rattle.mq_route.specs.declared.connection_state.ConnectionState.{ConnectionState}
 use Rattle.mq_route.specs.declared.connection_state.ConnectionState.TheVariants.{AwaitingConnect, ConnectedAs, Closed}
 use Rattle.mq_route.specs.Hub.{HubState, HubSession, HubConnection, key_of, key_on, stage_of, with_left}
 use Rattle.mq_route.specs.Work.{Work, shut_down, close}
 use Rattle.mq_end.specs.Ready.{HasRise}
+use Rattle.mq_hub.specs.declared.publish.rules.CopyRules.{CopyRules}
 use Rattle.mq_hub.specs.declared.sessions.session.BrokerSession.{BrokerSession}
 use Rattle.mq_hub.specs.Inside.Close.{close_at}
 use Rattle.mq_hub.specs.Inside.ConnectRoom.{HasConnectRoomAt}
@@ -229,9 +229,9 @@ module _ (key now : ℕ) where
     })
 
     -- a connection was shut down, and its session stores the time
-    pub proceeds_marked : (policy : WhenFull) (k : Conn) (why : HubClose) (old : HubTables) (did says : List Act) → key_on (stage_of k old.connections.connections) ≡ Some key
-        → u.sessions.room ≡ t.sessions.room → Proceeds policy (shut_down k why) old did t says → Proceeds policy (close_at now k why) old did u says
-    proceeds_marked policy k why old did says up room p = record {
+    pub proceeds_marked : (rules : CopyRules) (k : Conn) (why : HubClose) (old : HubTables) (did says : List Act) → key_on (stage_of k old.connections.connections) ≡ Some key
+        → u.sessions.room ≡ t.sessions.room → Proceeds rules (shut_down k why) old did t says → Proceeds rules (close_at now k why) old did u says
+    proceeds_marked rules k why old did says up room p = record {
       goes = λ config clock next kept same.
           let h = hub_of config clock next old in
           let q = p.goes config clock next kept same in

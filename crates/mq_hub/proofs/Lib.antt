@@ -59,3 +59,6 @@ pub mod PendingBytes
 pub mod MissedCopies
 pub mod DisconnectTimes
 pub mod ExpiredSessions
+pub mod Spaces
+pub mod FittingMessages
+pub mod PendingLengths

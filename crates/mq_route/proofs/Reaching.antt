@@ -1,6 +1,7 @@
 -- A step sends packets on the connection of its event, and copies to clients.
-use Rattle.std.proofs.Common.{◌≡◌, ℕ, Bool, true, false, cond, ◌||◌, List, [], ◌∷◌, ◌++◌, map, max, Option, Some, None, refl, sym, ap, subst, ◌∙◌, true≢false, eqb, eq-eqb}
+use Rattle.std.proofs.Common.{◌≡◌, ℕ, Bool, true, false, cond, ◌||◌, List, [], ◌∷◌, ◌++◌, length, map, max, Option, Some, None, refl, sym, ap, subst, ◌∙◌, true≢false, eqb, eq-eqb}
 use Rattle.std.proofs.lemmas.Bool.{cond-true, cond-false, or_parts}
+use Rattle.std.proofs.Math.Nat.{le-max_left, le-max_right}
 use Rattle.std.specs.List.{list_any}
 use Rattle.mq_packet.specs.declared.packet.Packet.{Packet}
 use Rattle.mq_packet.specs.declared.message.Message.{Message}
@@ -8,6 +9,7 @@ use Rattle.mq_packet.specs.Encoding.{encodings}
 use Rattle.mq_end.specs.End.{End, Reply, over}
 use Rattle.mq_route.specs.declared.act.Act.{Act}
 use Rattle.mq_route.specs.declared.act.Act.TheVariants as acts
+use Rattle.mq_route.specs.declared.config.HubConfig.{HubConfig}
 use Rattle.mq_route.specs.declared.conn.Conn.{Conn}
 use Rattle.mq_route.specs.declared.event.HubEvent.{HubEvent}
 use Rattle.mq_route.specs.declared.event.HubEvent.TheVariants.{Opened, Bytes, Ended, Tick, Collect}
@@ -27,6 +29,8 @@ use Rattle.mq_route.proofs.Changes.{Freely, freely, Anywhere, anywhere, Debt, ow
 use Rattle.mq_route.proofs.Steps.{comes_both, holding_both, tick_both, ended_both}
 use Rattle.mq_route.proofs.Events.{emptied, sound_new, acts_are}
 use Rattle.mq_route.proofs.Output.{kept_line, written_is, sound_run}
+use Rattle.mq_route.proofs.PendingOutput.{bounded_run}
+use Rattle.mq_route.proofs.Reading.{same_run}
 
 -- an act that is one of these
 any_more : (p : Act → Bool) (did : List Act) (act : Act) → list_any p (did ++ act ∷ []) ≡ false → (list_any p did ≡ false) × (p act ≡ false)
@@ -228,4 +232,9 @@ pub laws : OutputLaws
 laws = record {
   written_is_put_out = λ config before h after h2 f g k stays known. written_is k after h h2 g stays (sound_run before (new_hub config) h f (sound_new config)) known;
   others_unchanged = λ config before h f e r h2 step k other none. others k h e r h2 step (sound_run before (new_hub config) h f (sound_new config)) other none;
+  waiting_within = λ config most limited before h after h2 f g k stays known.
+      let s = sound_run before (new_hub config) h f (sound_new config) in
+      let limit = ap (λ (c : HubConfig). c.most_waiting) (same_run before (new_hub config) h f (sound_new config)) ∙ limited in
+      let few = length (waiting_on k h.connections) in
+      bounded_run k most (max most few) (le-max_left most few) after h h2 g stays s known limit (le-max_right most few);
 }

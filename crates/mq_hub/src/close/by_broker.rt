@@ -36,7 +36,8 @@ impl<S: FilterStore> HubOver<S> {
     {
         match self.key(conn) {
             Some(key) => {
-                let (rules, now) = (rules_of(&self.config), self.clock);
+                let rules = rules_of(&self.config);
+                let now = self.clock;
                 self.tables
                     .close_up(self.alloc, rules, conn, key, why, now, log);
             }

@@ -46,7 +46,7 @@ impl<S: FilterStore> HubOver<S> {
     {
         match self.tables.key(conn) {
             Some(key) => self.tables.sessions.pending(key),
-            None => self.tables.connections.pending(conn),
+            None => self.tables.connections.own_pending(conn),
         }
     }
 

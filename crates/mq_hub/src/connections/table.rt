@@ -415,7 +415,7 @@ impl Connections {
     }
 
     /// Returns the number of pending output bytes of a connection on which no client is connected.
-    pub(crate) fn pending(&self, conn: Conn) -> usize
+    pub(crate) fn own_pending(&self, conn: Conn) -> usize
         ensures { result ≡ length (waiting_on conn self.now.connections) }
     {
         match self.by_conn.get(&conn) {

@@ -136,8 +136,7 @@ pub(crate) fn make_room(
     ensures room { sessions.new.room ≡ sessions.old.room }
 {
     for due in copies {
-        let messages = slice::from_ref(&due.1);
-        if !make_room_for(sessions, most_stored, due.0, messages, more)? {
+        if !make_room_for(sessions, most_stored, due.0, slice::from_ref(&due.1), more)? {
             return Ok(false);
         }
     }

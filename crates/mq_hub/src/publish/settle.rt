@@ -12,12 +12,12 @@ ghost use Rattle.mq_hub.specs.Inside.Sessions.{session_at};
 
 use crate::publish::enqueue::{PlannedCopy, make_room_for};
 use crate::publish::rules::{CopyRules, QueuedAnswer, answer_for};
-use crate::publish::space::{Space, fits_left};
+use crate::publish::space::{Space, fits_left, has_identifier};
 use crate::sessions::table::Sessions;
 use mq_end::publish_len;
 use mq_packet::Message;
 use mq_route::Act;
-use mq_topic::{ClientKey, Qos};
+use mq_topic::ClientKey;
 use std::alloc::{AllocError, Global};
 use std::slice;
 
@@ -51,7 +51,7 @@ fn is_cut(
     requires { IsFor key (message.now ∷ []) sessions.now.list }
     ensures { result ≡ is_cut most_waiting queued sessions.now.list (key, message.now) }
 {
-    if message.qos != Qos::Q0 {
+    if has_identifier(message) {
         return false;
     }
     let left = sessions.waiting_left(key, most_waiting, queued);
@@ -192,6 +192,22 @@ fn settle_messages(
     Ok(settled)
 }
 
+// Whether a client's session has room for messages (2.3.1), or the rules drop those without room.
+fn have_room_for(
+    sessions: &Sessions,
+    rules: CopyRules,
+    key: ClientKey,
+    messages: &[Message],
+) -> bool
+    requires { IsFor key messages.now sessions.now.list }
+    ensures { (h : HubState) → HasSessions sessions.now.list h → rules_of h.config ≡ rules → result ≡ have_room (for_key key messages.now) h }
+{
+    if rules.drops_copies() {
+        return true;
+    }
+    sessions.has_room(key, rules.most_stored, messages)
+}
+
 // As [`settle_for`], if messages may be missed. There is room for all of QoS 1 and 2, or the rules
 // drop those without room.
 fn settle_first(
@@ -215,7 +231,7 @@ fn settle_first(
     ensures still { AreStillReady sessions.old.list sessions.new.list }
     ensures room { sessions.new.room ≡ sessions.old.room }
 {
-    if !rules.drops_copies() && !sessions.has_room(key, rules.most_stored, messages.as_slice()) {
+    if !have_room_for(sessions, rules, key, messages.as_slice()) {
         return Ok(None);
     }
     let space = sessions.space(key, rules, queued);

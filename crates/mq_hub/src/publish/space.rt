@@ -1,6 +1,7 @@
 //! What a session has room for.
 
 ghost use Rattle.std.specs.Prelude.{◌≡◌, ◌+◌, length, true};
+ghost use Rattle.mq_end.specs.Both.{has_identifier};
 ghost use Rattle.mq_flow.specs.Stored.{stored_bytes};
 ghost use Rattle.mq_hub.specs.Inside.Rules.{fits_left, left_of, skips, space_after, space_of};
 
@@ -28,6 +29,13 @@ pub(crate) const NO_SPACE: Space = Space {
     stored: Some(0),
     waiting: Some(0),
 };
+
+/// Whether a message has a packet identifier: its quality of service is 1 or 2 (2.3.1).
+pub(crate) fn has_identifier(message: &Message) -> bool
+    ensures { result ≡ has_identifier message.now.qos }
+{
+    message.qos != Qos::Q0
+}
 
 /// What a limit leaves.
 pub(crate) fn left_of(most: Option<u64>, used: u64) -> Option<u64>
@@ -85,7 +93,7 @@ impl Space {
     pub(crate) fn skips(&self, rules: CopyRules, message: &Message) -> bool
         ensures { result ≡ skips rules self.now message.now }
     {
-        if message.qos == Qos::Q0 {
+        if !has_identifier(message) {
             return !fits_left(self.waiting, publish_len(message) as u64);
         }
         rules.drops_copies() && (self.free == 0 || !fits_left(self.stored, message_bytes(message)))
@@ -96,7 +104,7 @@ impl Space {
         ensures { result ≡ space_after message.now self }
     {
         let waiting = left_of(self.waiting, publish_len(message) as u64);
-        if message.qos == Qos::Q0 {
+        if !has_identifier(message) {
             return Space {
                 free: self.free,
                 stored: self.stored,

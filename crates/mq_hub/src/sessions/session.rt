@@ -1,6 +1,7 @@
 //! One session.
 
-ghost use Rattle.std.specs.Prelude.{◌≡◌, ℕ, List, [], ◌∷◌, length, true, IfOk, OnOk};
+ghost use Rattle.std.specs.Prelude.{◌≡◌, ◌&&◌, ℕ, List, [], ◌∷◌, length, nat_le, true, IfOk, OnOk};
+ghost use Rattle.std.specs.List.{AllByRecursion};
 ghost use Rattle.mq_end.specs.End.{is_up};
 ghost use Rattle.mq_end.specs.Ready.{HasRise, HasRoom};
 ghost use Rattle.mq_packet.specs.declared.connect.Connect.{Connect};
@@ -11,18 +12,18 @@ ghost use Rattle.mq_hub.specs.Inside.Calls.{IsAllowed, Serves, publish_call};
 ghost use Rattle.mq_hub.specs.Inside.Numbers.{stored_at};
 ghost use Rattle.mq_hub.specs.Inside.Output.{Collects};
 ghost use Rattle.mq_hub.specs.Inside.Close.{parted};
-ghost use Rattle.mq_hub.specs.Inside.Placement.{published, IsReady, Readies};
-ghost use Rattle.mq_hub.specs.Inside.Rules.{free_of, has_room};
+ghost use Rattle.mq_hub.specs.Inside.Placement.{published, IsReady, MayGo, Readies};
+ghost use Rattle.mq_hub.specs.Inside.Rules.{bytes_of, count_of, fits_left, free_of, has_room};
 ghost use Rattle.mq_hub.specs.Inside.ConnectRoom.{left, connected_end};
 
 use crate::connect::resume::connect_end;
-use crate::publish::space::{fits_left, left_of, stored_left};
+use crate::publish::space::{fits_left, has_identifier, left_of, stored_left};
 use crate::sessions::call::{Call, serve, take_publish};
 use bytes::Bytes;
 use mq_end::{ByteQueue, PacketOutcome, PublishOutcome, PublishRefusal, ServerEnd};
 use mq_flow::{Sender, message_bytes, next_laws};
 use mq_packet::{BoxedConnect, Connect, Delivery, Message, encoding_laws};
-use mq_topic::{ClientKey, Qos};
+use mq_topic::ClientKey;
 use mq_wire::Text;
 use std::alloc::{AllocError, Global};
 use std::marker::Model;
@@ -217,24 +218,31 @@ pub(crate) fn free_of(end: &ServerEnd) -> usize
     }
 }
 
-/// Whether an end that has a session has room for messages: enough free identifiers (2.3.1), and it
-/// may store their bytes.
-pub(crate) fn has_room(end: &ServerEnd, most_stored: Option<u64>, messages: &[Message]) -> bool
-    ensures { end.now.end.known ≡ true → result ≡ has_room most_stored messages.now end.now }
+// Whether messages fit: so many identifiers are free, and so many bytes may be stored.
+fn fits(free: usize, stored: Option<u64>, messages: &[Message]) -> bool
+    ensures { result ≡ (nat_le (count_of messages.now) free && fits_left stored (bytes_of messages.now)) }
 {
-    let mut free = free_of(end);
-    let mut left = stored_left(end, most_stored);
+    let mut unused = free;
+    let mut left = stored;
     for message in messages {
-        if message.qos != Qos::Q0 {
+        if has_identifier(message) {
             let bytes = message_bytes(message);
-            if free == 0 || !fits_left(left, bytes) {
+            if unused == 0 || !fits_left(left, bytes) {
                 return false;
             }
-            free -= 1;
+            unused -= 1;
             left = left_of(left, bytes);
         }
     }
     true
+}
+
+/// Whether an end has room for messages that it may send: enough free identifiers (2.3.1), and it
+/// may store their bytes.
+pub(crate) fn has_room(end: &ServerEnd, most_stored: Option<u64>, messages: &[Message]) -> bool
+    ensures { AllByRecursion (λ m. MayGo m end.now) messages.now → result ≡ has_room most_stored messages.now end.now }
+{
+    fits(free_of(end), stored_left(end, most_stored), messages)
 }
 
 /// Returns the number of messages that an end stores (4.3); 0 if it has no session.

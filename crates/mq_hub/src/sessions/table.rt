@@ -2,7 +2,7 @@
 
 ghost use Rattle.std.specs.Prelude.{◌≡◌, ◌+◌, ◌-◌, ◌^◌, ◌≤◌, ◌<◌, ℕ, List, [], ◌∷◌, ◌++◌, true, Some, None, length, map, min, nat_lt, slice_get, vec_capacity, if◌then◌else◌, OnOk, OnErr, IfOk, IsSome, IfSome};
 ghost use Rattle.std.specs.HashMap.{get, spare};
-ghost use Rattle.std.specs.List.{prefix_len};
+ghost use Rattle.std.specs.List.{AllByRecursion, prefix_len};
 ghost use Rattle.std.specs.Str.{bytes_eq};
 ghost use Rattle.std.specs.Option.{option_copied};
 ghost use Rattle.mq_route.specs.Hub.{key_of};
@@ -15,7 +15,7 @@ ghost use Rattle.mq_hub.specs.Inside.Numbers.{all_stored};
 ghost use Rattle.mq_hub.specs.Inside.Output.{CollectsAt};
 ghost use Rattle.mq_hub.specs.Inside.Close.{parted};
 ghost use Rattle.mq_hub.specs.Inside.View.{output_of};
-ghost use Rattle.mq_hub.specs.Inside.Placement.{placed_at, AreSameButRoom, AreStillReady, IsReadyAt, ReadiesAt};
+ghost use Rattle.mq_hub.specs.Inside.Placement.{placed_at, AreSameButRoom, AreStillReady, IsReadyAt, MayGo, ReadiesAt};
 ghost use Rattle.mq_hub.specs.Inside.Rules.{has_room, left_of, space_of};
 ghost use Rattle.mq_hub.specs.Inside.ConnectRoom.{left, connected_end, HasConnectRoomAt, IsEnlarged};
 ghost use Rattle.mq_hub.specs.Inside.Sessions.{marked_at, sessions_of, session_at, with_server, without_key, AreBelow, AreAscending};
@@ -225,7 +225,8 @@ impl Sessions {
         most_stored: Option<u64>,
         messages: &[Message],
     ) -> bool
-        ensures { IfSome (session_at key self.now.list) (λ t. t.end.end.known ≡ true → result ≡ has_room most_stored messages.now t.end) }
+        ensures room { IfSome (session_at key self.now.list) (λ t. AllByRecursion (λ m. MayGo m t.end) messages.now → result ≡ has_room most_stored messages.now t.end) }
+        ensures ascending { AreAscending self.now.list }
     {
         match self.get(key) {
             Some(session) => has_room(&session.end, most_stored, messages),

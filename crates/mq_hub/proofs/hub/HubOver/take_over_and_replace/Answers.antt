@@ -1,4 +1,4 @@
-use Rattle.std.proofs.Common.{◌≡◌, ◌∙◌, ◌<◌, ◌^◌, ◌+◌, ◌++◌, ◌∷◌, [], false, not, Bool, ℕ, List, sym, ap, ap₂, subst, refl}
+use Rattle.std.proofs.Common.{◌≡◌, ◌∙◌, ◌<◌, ◌^◌, ◌+◌, ◌++◌, ◌∷◌, [], false, not, Bool, ℕ, List, sym, ap, ap₂, subst}
 use Rattle.mq_route.specs.declared.act.Act.{Act}
 use Rattle.mq_route.specs.declared.act.Act.TheVariants as acts
 use Rattle.mq_route.specs.declared.connection_state.ConnectionState.TheVariants.{AwaitingConnect, ConnectedAs}
@@ -88,7 +88,7 @@ invariant_of-self-2 g c =
     let connections = c.begin.ensures.connections
     ∙ ap₂ (λ (n : ℕ) (m : ConnectionTerms). with_connection (λ x. record x { stage = ConnectedAs n m h.clock }) k v.connections.connections) (ap (λ (s : BrokerSession). s.key) begun.after)
     c.in_ok-beginning.ensures.terms in
-    keeps_anew h.config.when_full (over_at h.clock c.args.other c.args.key (is_clean (stage_of c.args.other r.connections.connections))) k c.args.connect c.args.client h.config h.clock h.next_key r v u own
+    keeps_anew c.rules_of-rules.result (over_at h.clock c.args.other c.args.key (is_clean (stage_of c.args.other r.connections.connections))) k c.args.connect c.args.client h.config h.clock h.next_key r v u own
     c.reserve_more.new.self.acts c.take_over_ending.new.log.acts c.push.new.self.acts c.requires.named kept at c.take_over_ending.ensures.proceeds begun
     c.begin.ensures.rest c.begin.ensures.list connections
     (subst (λ (s : HubState). IsWillWithin s.config.limits.most c.args.connect.will) (sym c.self.view_is) c.requires.will) c.begin.ensures.limits
@@ -119,9 +119,9 @@ returns-clause-goes g c =
     let ends = is_clean (stage_of other r.connections.connections) in
     let said = c.push.ensures.acts ∙ ap (λ (n : ℕ). c.take_over_ending.new.log.acts ++ acts.Up k n false ∷ []) (sym next) in
     let goes =
-    goes_anew h.config.when_full (over_at h.clock other c.args.key ends) k c.args.connect c.args.client h.config h.clock h.next_key r v u own
+    goes_anew c.rules_of-rules.result (over_at h.clock other c.args.key ends) k c.args.connect c.args.client h.config h.clock h.next_key r v u own
     c.reserve_more.new.self.acts c.take_over_ending.new.log.acts c.push.new.self.acts c.requires.named kept at c.take_over_ending.ensures.proceeds begun
-    c.begin.ensures.rest c.begin.ensures.list connections refl said in
+    c.begin.ensures.rest c.begin.ensures.list connections (sym c.rules_of-rules.ensures) said in
     let clean : ends ≡ is_clean (stage_of other c.args.self.now.connections) =
     ap (λ (xs : List HubConnection). is_clean (stage_of other xs)) e.connections
     ∙ ap is_clean (stage_there other h.config h.clock h.next_key t c.args.self.now c.self.view_is) in (

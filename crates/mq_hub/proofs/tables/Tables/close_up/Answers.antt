@@ -10,19 +10,19 @@ use Rattle.mq_hub.proofs.tables.Tables.close_up.Goals as goal
 
 pub last_will-requires-clause-hubs : goal.last_will-requires-clause-hubs
 last_will-requires-clause-hubs g c =
-    hubs_after c.args.when_full _ c.args.self.now c.leave-will.new.self c.args.log.now.acts c.leave-will.new.log.acts c.requires.hubs (c.leave-will.ensures.proceeds c.args.when_full)
+    hubs_after c.args.rules _ c.args.self.now c.leave-will.new.self c.args.log.now.acts c.leave-will.new.log.acts c.requires.hubs (c.leave-will.ensures.proceeds c.args.rules)
 
 pub last_will-requires-clause-within : goal.last_will-requires-clause-within
 last_will-requires-clause-within g c =
-    will_after_close c.args.when_full _ c.args.conn c.args.why c.leave-will.result c.args.self.now c.leave-will.new.self c.args.log.now.acts c.leave-will.new.log.acts
-    c.requires.hubs (c.leave-will.ensures.proceeds c.args.when_full) c.leave-will.ensures.will
+    will_after_close c.args.rules _ c.args.conn c.args.why c.leave-will.result c.args.self.now c.leave-will.new.self c.args.log.now.acts c.leave-will.new.log.acts
+    c.requires.hubs (c.leave-will.ensures.proceeds c.args.rules) c.leave-will.ensures.will
 
 pub returns-clause-proceeds : goal.returns-clause-proceeds
 returns-clause-proceeds g c =
-    proceeds_marked c.args.key c.args.now c.last_will.new.self c.mark_left.new.self c.mark_left.ensures.list c.mark_left.ensures.rest c.args.when_full c.args.conn c.args.why
+    proceeds_marked c.args.key c.args.now c.last_will.new.self c.mark_left.new.self c.mark_left.ensures.list c.mark_left.ensures.rest c.args.rules c.args.conn c.args.why
     c.args.self.now c.args.log.now.acts c.last_will.new.log.acts c.requires.up c.mark_left.ensures.room
-    (proceeds_closed c.args.when_full c.args.conn c.args.why c.args.key c.leave-will.result c.args.self.now c.leave-will.new.self c.last_will.new.self c.args.log.now.acts
-    c.leave-will.new.log.acts c.last_will.new.log.acts c.requires.up c.leave-will.ensures.will (c.leave-will.ensures.proceeds c.args.when_full) c.last_will.ensures.goes
+    (proceeds_closed c.args.rules c.args.conn c.args.why c.args.key c.leave-will.result c.args.self.now c.leave-will.new.self c.last_will.new.self c.args.log.now.acts
+    c.leave-will.new.log.acts c.last_will.new.log.acts c.requires.up c.leave-will.ensures.will (c.leave-will.ensures.proceeds c.args.rules) c.last_will.ensures.goes
     c.last_will.ensures.spares)
 
 pub returns-clause-away : goal.returns-clause-away

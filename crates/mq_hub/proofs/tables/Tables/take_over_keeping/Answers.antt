@@ -14,24 +14,24 @@ use Rattle.mq_hub.proofs.tables.Tables.take_over_keeping.Goals as goal
 
 pub last_will-requires-clause-hubs : goal.last_will-requires-clause-hubs
 last_will-requires-clause-hubs g c =
-    hubs_after c.args.when_full _ c.args.self.now c.leave_with-will.new.self c.args.log.now.acts c.leave_with-will.new.log.acts c.requires.hubs (c.leave_with-will.ensures.proceeds c.args.when_full)
+    hubs_after c.args.rules _ c.args.self.now c.leave_with-will.new.self c.args.log.now.acts c.leave_with-will.new.log.acts c.requires.hubs (c.leave_with-will.ensures.proceeds c.args.rules)
 
 pub last_will-requires-clause-within : goal.last_will-requires-clause-within
 last_will-requires-clause-within g c =
-    will_after_close c.args.when_full _ c.args.conn TakenOver c.leave_with-will.result c.args.self.now c.leave_with-will.new.self c.args.log.now.acts
+    will_after_close c.args.rules _ c.args.conn TakenOver c.leave_with-will.result c.args.self.now c.leave_with-will.new.self c.args.log.now.acts
     c.leave_with-will.new.log.acts
-    c.requires.hubs (c.leave_with-will.ensures.proceeds c.args.when_full) c.leave_with-will.ensures.will
+    c.requires.hubs (c.leave_with-will.ensures.proceeds c.args.rules) c.leave_with-will.ensures.will
 
 pub returns-clause-proceeds : goal.returns-clause-proceeds
 returns-clause-proceeds g c =
     let k = c.args.conn in
     let key = c.args.key in
     let first =
-    subst (λ (b : Bool). Proceeds c.args.when_full (λ fits. parts k TakenOver key b) c.args.self.now c.args.log.now.acts c.leave_with-will.new.self c.leave_with-will.new.log.acts)
-    (sym c.requires.lasts) (c.leave_with-will.ensures.proceeds c.args.when_full) in
-    proceeds_marked key c.args.now c.last_will.new.self c.mark_left.new.self c.mark_left.ensures.list c.mark_left.ensures.rest c.args.when_full k TakenOver
+    subst (λ (b : Bool). Proceeds c.args.rules (λ fits. parts k TakenOver key b) c.args.self.now c.args.log.now.acts c.leave_with-will.new.self c.leave_with-will.new.log.acts)
+    (sym c.requires.lasts) (c.leave_with-will.ensures.proceeds c.args.rules) in
+    proceeds_marked key c.args.now c.last_will.new.self c.mark_left.new.self c.mark_left.ensures.list c.mark_left.ensures.rest c.args.rules k TakenOver
     c.args.self.now c.args.log.now.acts c.last_will.new.log.acts c.requires.up c.mark_left.ensures.room
-    (proceeds_closed c.args.when_full k TakenOver key c.leave_with-will.result c.args.self.now c.leave_with-will.new.self c.last_will.new.self c.args.log.now.acts
+    (proceeds_closed c.args.rules k TakenOver key c.leave_with-will.result c.args.self.now c.leave_with-will.new.self c.last_will.new.self c.args.log.now.acts
     c.leave_with-will.new.log.acts c.last_will.new.log.acts c.requires.up c.leave_with-will.ensures.will first c.last_will.ensures.goes
     c.last_will.ensures.spares)
 
