@@ -26,3 +26,4 @@ mod Silence
 mod Clients
 mod PendingOutput
 mod Bounds
+mod Expiring
