@@ -461,8 +461,8 @@ settled_all rules queued key ts ms s keeps kept says = go (may_miss rules) keeps
     go true e = absurd (true≢false e)
     go false e = (kept, says)
 
--- the messages were settled for the session before the answer to a request was queued; `queued`: the
--- number of its bytes
+-- the messages were settled for the session before the answer to a request was queued; `queued`:
+-- the number of its bytes
 pub settled_as : (rules : CopyRules) (config : HubConfig) (queued key : ℕ) (ms : List Message) (s : SettledMessages) (ts us : List BrokerSession) (t u : BrokerSession)
     → rules_of config ≡ rules → session_at key ts ≡ Some t → session_at key us ≡ Some u → u.end.capacity ≡ config.capacity
     → is_up u.end.end.state ≡ true → space_of rules 0 u.end ≡ space_of rules queued t.end

@@ -136,7 +136,6 @@ impl<S: FilterStore> HubOver<S> {
     {
         let alloc = self.alloc;
         let rules = rules_of(&self.config);
-        self.tables
-            .subscribe(alloc, rules, key, id, requests, log)
+        self.tables.subscribe(alloc, rules, key, id, requests, log)
     }
 }

@@ -267,14 +267,14 @@ module _ (config : HubConfig) (ids : IdentifierLaws) (next : NextLaws) (sound : 
     kept = g.kept;
     whole = (
       λ keep. list_any-append is_stored_miss ps qs ∙ or_from (list_any is_stored_miss ps) (list_any is_stored_miss qs) (f.whole.0 keep) (g.whole.0 keep),
-      λ open. list_any-append is_plain_miss ps qs ∙ or_from (list_any is_plain_miss ps) (list_any is_plain_miss qs) (f.whole.1 open) (g.whole.1 open),
+      λ unlimited. list_any-append is_plain_miss ps qs ∙ or_from (list_any is_plain_miss ps) (list_any is_plain_miss qs) (f.whole.1 unlimited) (g.whole.1 unlimited),
     );
     places = λ c. g.places c ∙ ap (λ (l : List (Bool × Message)). l ++ marked_for c qs) (f.places c) ∙ append_assoc (marked c w.did) (marked_for c ps) (marked_for c qs)
         ∙ ap (λ (l : List (Bool × Message)). marked c w.did ++ l) (sym (marked_for-append c ps qs));
   }
 
   quiet : (w v : Work) → Still w.did v.did → Kept v → Goes w [] v
-  quiet w v still h = record { accepts = tt; kept = h; whole = (λ keep. refl, λ open. refl); places = λ c. still c ∙ sym (append-nil (marked c w.did)) }
+  quiet w v still h = record { accepts = tt; kept = h; whole = (λ keep. refl, λ unlimited. refl); places = λ c. still c ∙ sym (append-nil (marked c w.did)) }
 
   after_quiet : (w v x : Work) (ps : List Placing) → Still w.did v.did → Goes v ps x → Goes w ps x
   after_quiet w v x ps still g = record { accepts = g.accepts; kept = g.kept; whole = g.whole; places = λ c. g.places c ∙ ap (λ (l : List (Bool × Message)). l ++ marked_for c ps) (still c) }
@@ -430,7 +430,6 @@ module _ (config : HubConfig) (ids : IdentifierLaws) (next : NextLaws) (sound : 
   unfolding remove
   remove_kept key w h = record {
     is = h.is;
-   
     books = λ c. subst (λ (e : End). IsKept config e.book) (sym (end_without key c w.hub.sessions))
         (cond_both (eqb key c) no_end (end_of c w.hub.sessions) (λ e. IsKept config e.book) (λ t. blank_kept config ids) (λ t. h.books c));
     rows = rowed_without key w.hub.rows w.hub.sessions h.rows;
@@ -448,7 +447,6 @@ module _ (config : HubConfig) (ids : IdentifierLaws) (next : NextLaws) (sound : 
   marks_kept : (key : Option ℕ) (now : ℕ) (w : Work) → Kept w → Kept (with_sessions (with_left key now) w)
   marks_kept key now w h = record {
     is = h.is;
-   
     books = λ c. subst (λ (e : End). IsKept config e.book) (sym (end_left key now c w.hub.sessions)) (h.books c);
     rows = each_weaker (λ (r : Row). Stands w.hub.sessions r.0.0) (λ (r : Row). Stands (with_left key now w.hub.sessions) r.0.0)
         (λ r there. has_left key now r.0.0 w.hub.sessions ∙ there) w.hub.rows h.rows;
@@ -563,7 +561,6 @@ module _ (config : HubConfig) (ids : IdentifierLaws) (next : NextLaws) (sound : 
       let s : HubSession = record { client = client; key = n; end = new_end w.hub.config; left = w.hub.clock } in
       record {
         is = h.is;
-       
         books = λ c. subst (λ (e : End). IsKept config e.book) (sym (end_new s c w.hub.sessions))
             (cond_both (has c w.hub.sessions) (end_of c w.hub.sessions) (cond (eqb n c) (new_end w.hub.config) no_end) (λ e. IsKept config e.book) (λ t. h.books c)
             (λ t. cond_both (eqb n c) (new_end w.hub.config) no_end (λ e. IsKept config e.book) (λ t. blank_kept config ids) (λ t. blank_kept config ids)));
@@ -704,7 +701,7 @@ laws ids next sound = record {
   books = λ config small es h f key. ((last_activity ids next sound config small es h f).books key).sound;
   accepts = λ config small before h f e r w right d. (step ids next sound config small before h f e r w d).accepts;
   none_missed = λ config closes small before h f e r w right d. (step ids next sound config small before h f e r w d).whole.0 (ap drops_copies closes);
-  none_cut = λ config open small before h f e r w right d. (step ids next sound config small before h f e r w d).whole.1 open;
+  none_cut = λ config unlimited small before h f e r w right d. (step ids next sound config small before h f e r w d).whole.1 unlimited;
   stored = λ config most is small es h f key.
       subst (λ (o : Option ℕ). IsStored o (end_of key h.sessions).book) is ((last_activity ids next sound config small es h f).books key).stored;
   marked_are = λ config small before h f e r w right d c. ap (marked c) (acts_are h e r w d) ∙ (step ids next sound config small before h f e r w d).places c;

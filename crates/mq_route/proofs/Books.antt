@@ -458,11 +458,11 @@ module _ (config : HubConfig) where
         (ap (λ (g : HubConfig). drops_copies g.when_full) hold.is ∙ keep)
 
     sent_by : (key : ℕ) (m : Message) (w : Work) → Holds w.hub → config.most_waiting ≡ None → (is_missed key m w.hub && not (has_identifier m.qos)) ≡ false
-    sent_by key m w hold open =
+    sent_by key m w hold unlimited =
         let e = end_of key w.hub.sessions in
         plain_no (drops_copies w.hub.config.when_full) (is_full w.hub.config.capacity e.book || not (leaves w.hub.config.most_stored (stored_bytes e.book) (message_bytes m)))
         (not (leaves w.hub.config.most_waiting (pending_on (up_on key w.hub.connections) w.hub.connections) (publish_bytes m))) (has_identifier m.qos)
-        (ap (λ (o : Option ℕ). not (leaves o (pending_on (up_on key w.hub.connections) w.hub.connections) (publish_bytes m))) (ap (λ (g : HubConfig). g.most_waiting) hold.is ∙ open))
+        (ap (λ (o : Option ℕ). not (leaves o (pending_on (up_on key w.hub.connections) w.hub.connections) (publish_bytes m))) (ap (λ (g : HubConfig). g.most_waiting) hold.is ∙ unlimited))
 
     -- no copy of QoS 1 or 2 is missed, unless copies may be dropped; none of QoS 0, unless pending
     -- output has a limit
@@ -473,7 +473,7 @@ module _ (config : HubConfig) where
     -- stay sound
     pub accepting : (copies : List (ℕ × Message)) (w : Work) → Holds w.hub → For (Stands w.hub.sessions) copies → Room copies w.hub.sessions
         → AreAccepts (placings copies w) × Holds (place_all copies w).hub × Whole (placings copies w)
-    accepting [] w hold stand r = (tt, hold, λ keep. refl, λ open. refl)
+    accepting [] w hold stand r = (tt, hold, λ keep. refl, λ unlimited. refl)
     accepting (x ∷ copies) w hold stand r = go (is_missed x.0 x.1 w.hub) refl (accepting copies (place x.0 x.1 w))
       where
         fewer : Room copies w.hub.sessions
@@ -482,7 +482,7 @@ module _ (config : HubConfig) where
         whole : Whole (placings copies (place x.0 x.1 w)) → Whole (placings (x ∷ copies) w)
         whole more = (
           λ keep. or_from (is_missed x.0 x.1 w.hub && has_identifier x.1.qos) (list_any is_stored_miss (placings copies (place x.0 x.1 w))) (kept_by x.0 x.1 w hold keep) (more.0 keep),
-          λ open. or_from (is_missed x.0 x.1 w.hub && not (has_identifier x.1.qos)) (list_any is_plain_miss (placings copies (place x.0 x.1 w))) (sent_by x.0 x.1 w hold open) (more.1 open),
+          λ unlimited. or_from (is_missed x.0 x.1 w.hub && not (has_identifier x.1.qos)) (list_any is_plain_miss (placings copies (place x.0 x.1 w))) (sent_by x.0 x.1 w hold unlimited) (more.1 unlimited),
         )
 
         go : (b : Bool) → is_missed x.0 x.1 w.hub ≡ b

@@ -69,7 +69,7 @@ settled_is c (act ∷ log) e =
 
 -- ---- one more act
 
-module _ (config : HubConfig) (keep : drops_copies config.when_full ≡ false) (open : config.most_waiting ≡ None) where
+module _ (config : HubConfig) (keep : drops_copies config.when_full ≡ false) (unlimited : config.most_waiting ≡ None) where
   -- none of these acts is a miss
   abbrev NoMiss : List Act → Type 0
   NoMiss did = (c : ℕ) → missed c did ≡ []
@@ -84,7 +84,7 @@ module _ (config : HubConfig) (keep : drops_copies config.when_full ≡ false) (
   never key m w same is =
       let pending = pending_on (up_on key w.hub.connections) w.hub.connections in
       let kept = ap (λ (d : Bool). d && lacks_room key m w.hub) (ap (λ (c : HubConfig). drops_copies c.when_full) same ∙ keep) in
-      let sent = ap (λ (o : Option ℕ). not (leaves o pending (publish_bytes m)) && not (has_identifier m.qos)) (ap (λ (c : HubConfig). c.most_waiting) same ∙ open) in
+      let sent = ap (λ (o : Option ℕ). not (leaves o pending (publish_bytes m)) && not (has_identifier m.qos)) (ap (λ (c : HubConfig). c.most_waiting) same ∙ unlimited) in
       true≢false (sym is ∙ ap₂ (λ (a b : Bool). a || b) kept sent)
 
   put_calm : Sends Calm

@@ -394,7 +394,7 @@ module _ (store : StoreLaws) where
   laws = record {
     settled_is_routed = settles;
     nothing_missed = misses;
-    placed_is_routed = λ config closes open es h f c. sym (settled_is c (acts_of es) (misses config closes open es h f c)) ∙ settles config es h f c;
+    placed_is_routed = λ config closes unlimited es h f c. sym (settled_is c (acts_of es) (misses config closes unlimited es h f c)) ∙ settles config es h f c;
     due_is_routed = λ config es h f c m. let a = tells_run es [] (new_hub config) h f (sound_new config) (λ c. refl, λ c. refl) in due_is h c m ∙ ap (λ (s : Seen). copies_for c s m) (sym (a.0 c));
   }
     where
@@ -402,4 +402,4 @@ module _ (store : StoreLaws) where
       settles config es h f c = let a = tells_run es [] (new_hub config) h f (sound_new config) (λ c. refl, λ c. refl) in sym (a.1 c ∙ append-nil (settled c (acts_of es)))
 
       misses : (config : HubConfig) → config.when_full ≡ ClosePublisher → config.most_waiting ≡ None → (es : List Episode) (h : HubState) → Follows (new_hub config) es h → (c : ℕ) → missed c (acts_of es) ≡ []
-      misses config closes open es h f c = none_run config (ap drops_copies closes) open es (new_hub config) h f (sound_new config) refl c
+      misses config closes unlimited es h f c = none_run config (ap drops_copies closes) unlimited es (new_hub config) h f (sound_new config) refl c

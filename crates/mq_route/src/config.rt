@@ -68,7 +68,7 @@ pub struct HubConfig {
     /// The maximum number of topic and payload bytes of the messages that one session stores (4.1);
     /// `None` for no limit. A copy of QoS 1 or 2 that exceeds it has no room.
     pub most_stored: Option<u64>,
-    /// The maximum number of pending output bytes of one connection with a copy of QoS 0; `None` for
-    /// no limit. The client misses a copy that exceeds it. Other packets are always queued.
+    /// The maximum number of pending output bytes of one connection with a copy of QoS 0; `None`
+    /// for no limit. The client misses a copy that exceeds it. Other packets are always queued.
     pub most_waiting: Option<u64>,
 }

@@ -68,7 +68,7 @@ pub(crate) fn answer_for(answer: Option<QueuedAnswer>, key: ClientKey) -> usize
     }
 }
 
-/// The answer of a client's end to its PUBLISH: PUBACK or PUBREC (3.4, 3.5), and nothing with QoS 0.
+/// The answer of a client's end to its PUBLISH: PUBACK or PUBREC (3.4, 3.5); nothing with QoS 0.
 pub(crate) fn publish_answer(key: ClientKey, delivery: Option<Delivery>) -> QueuedAnswer
     ensures { result ≡ publish_answer key delivery }
 {

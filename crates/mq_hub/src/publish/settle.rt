@@ -87,7 +87,13 @@ fn settle_copy(
         settled.acts.push(Act::Missed(key, message))?;
         return Ok(true);
     }
-    if make_room_for(sessions, rules.most_stored, key, slice::from_ref(&message), more)? {
+    if make_room_for(
+        sessions,
+        rules.most_stored,
+        key,
+        slice::from_ref(&message),
+        more,
+    )? {
         settled.acts.push(Act::Placed(key, message.clone()?))?;
         settled.kept.push((key, message))?;
         return Ok(true);
@@ -100,8 +106,8 @@ fn settle_copy(
 }
 
 /// Settles copies for different clients, after this answer is queued for one of them. Makes room in
-/// the sessions for those that are placed, and for `more` bytes besides. Returns `None` if a session
-/// has no room for its copy (2.3.1) and the rules do not drop it.
+/// the sessions for those that are placed, and for `more` bytes besides. Returns `None` if a copy
+/// has no room (2.3.1) and the rules do not drop it.
 pub(crate) fn settle(
     alloc: Global,
     sessions: &mut Sessions,
@@ -236,7 +242,13 @@ fn settle_first(
     }
     let space = sessions.space(key, rules, queued);
     let settled = settle_messages(alloc, rules, key, messages, space)?;
-    if make_room_for(sessions, rules.most_stored, key, settled.kept.as_slice(), more)? {
+    if make_room_for(
+        sessions,
+        rules.most_stored,
+        key,
+        settled.kept.as_slice(),
+        more,
+    )? {
         return Ok(Some(settled));
     }
     // Not reached: the messages that were kept fit.

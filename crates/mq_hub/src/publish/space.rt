@@ -1,4 +1,4 @@
-//! What a session has room for.
+//! The room of a session.
 
 ghost use Rattle.std.specs.Prelude.{◌≡◌, ◌+◌, length, true};
 ghost use Rattle.mq_end.specs.Both.{has_identifier};
@@ -12,7 +12,7 @@ use mq_flow::message_bytes;
 use mq_packet::Message;
 use mq_topic::Qos;
 
-/// What a session has room for. `None`: there is no limit.
+/// The room of a session. `None`: there is no limit.
 #[derive(Clone, Copy)]
 pub(crate) struct Space {
     /// The number of free packet identifiers (2.3.1).
@@ -37,14 +37,14 @@ pub(crate) fn has_identifier(message: &Message) -> bool
     message.qos != Qos::Q0
 }
 
-/// What a limit leaves.
+/// The rest of a limit.
 pub(crate) fn left_of(most: Option<u64>, used: u64) -> Option<u64>
     ensures { result ≡ left_of most used }
 {
     Some(most?.saturating_sub(used))
 }
 
-/// Whether this number fits in what a limit leaves.
+/// Whether this number fits in the rest of a limit.
 pub(crate) fn fits_left(left: Option<u64>, more: u64) -> bool
     ensures { result ≡ fits_left left more }
 {
@@ -65,11 +65,7 @@ pub(crate) fn stored_left(end: &ServerEnd, most_stored: Option<u64>) -> Option<u
 }
 
 /// Returns the number of further pending output bytes, after this number of bytes is queued.
-pub(crate) fn waiting_left(
-    end: &ServerEnd,
-    most_waiting: Option<u64>,
-    queued: usize,
-) -> Option<u64>
+pub(crate) fn waiting_left(end: &ServerEnd, most_waiting: Option<u64>, queued: usize) -> Option<u64>
     ensures { result ≡ left_of most_waiting (queued + length end.now.output) }
 {
     let most = most_waiting?;
@@ -77,7 +73,7 @@ pub(crate) fn waiting_left(
     Some(left.saturating_sub(end.output().len() as u64))
 }
 
-/// Returns what an end that has a session has room for, after this number of bytes is queued.
+/// Returns the room of an end's session, after this number of bytes is queued.
 pub(crate) fn space_of(end: &ServerEnd, rules: CopyRules, queued: usize) -> Space
     ensures { end.now.end.known ≡ true → result ≡ space_of rules queued end.now }
 {
@@ -99,7 +95,7 @@ impl Space {
         rules.drops_copies() && (self.free == 0 || !fits_left(self.stored, message_bytes(message)))
     }
 
-    /// Returns what is left when a message is queued for a connected client.
+    /// Returns the rest after a message is queued for a connected client.
     pub(crate) fn after(self, message: &Message) -> Space
         ensures { result ≡ space_after message.now self }
     {

@@ -207,7 +207,7 @@ impl Sessions {
         self.keys.get(client).copied()
     }
 
-    /// Returns what a client's session has room for, after this number of bytes is queued.
+    /// Returns the room of a client's session, after this number of bytes is queued.
     pub(crate) fn space(&self, key: ClientKey, rules: CopyRules, queued: usize) -> Space
         ensures { IfSome (session_at key self.now.list) (λ t. t.end.end.known ≡ true → result ≡ space_of rules queued t.end) }
     {
@@ -217,8 +217,8 @@ impl Sessions {
         }
     }
 
-    /// Whether a client's session has room for messages: enough free identifiers (2.3.1), and it may
-    /// store their bytes.
+    /// Whether a client's session has room for messages: enough free identifiers (2.3.1), and it
+    /// may store their bytes.
     pub(crate) fn has_room(
         &self,
         key: ClientKey,
@@ -234,8 +234,8 @@ impl Sessions {
         }
     }
 
-    /// Returns the number of pending output bytes that a client's session may still have, after this
-    /// number of bytes is queued. `None`: there is no limit.
+    /// Returns the number of further pending output bytes of a client's session, after this number
+    /// of bytes is queued. `None`: there is no limit.
     pub(crate) fn waiting_left(
         &self,
         key: ClientKey,

@@ -104,8 +104,8 @@ impl<S: FilterStore> Tables<S> {
     }
 
     /// Publishes the will of a client, if it has one (3.1.2.5). If a session has no room for its
-    /// copy (2.3.1), the copy is missed, or the will is reported as dropped, as the rules say. It is
-    /// also dropped if an allocation fails. Room that was reserved before stays reserved.
+    /// copy (2.3.1), the copy is missed, or the will is reported as dropped, as the rules say. It
+    /// is also dropped if an allocation fails. Room that was reserved before stays reserved.
     pub(crate) fn last_will(
         &mut self,
         alloc: Global,

@@ -37,9 +37,10 @@ returns-then-branch-clause-settles c =
     let own = space_of rules c.args.queued for.session.end in
     let known = subst (λ (o : Option BrokerSession). IfSome o (λ t. t.end.end.known ≡ true → c.space-space.result ≡ space_of rules c.args.queued t.end)) for.there c.space-space.ensures in
     subst (λ (o : Option BrokerSession). IfSome o (λ t. (c.in_ok-settled.settled.kept.items ≡ first_fitting rules (space_of rules c.args.queued t.end) ms)
-    × (c.in_ok-settled.settled.acts.items ≡ fitting_acts rules c.args.key (space_of rules c.args.queued t.end) ms))) (sym for.there)
-    (c.in_ok-settled.ensures.kept ∙ first_known rules c.space-space.result own ms for.session.end for.may_go known,
-    c.in_ok-settled.ensures.acts ∙ acts_known rules c.args.key c.space-space.result own ms for.session.end for.may_go known)
+    × (c.in_ok-settled.settled.acts.items ≡ fitting_acts rules c.args.key (space_of rules c.args.queued t.end) ms))) (sym for.there) (
+      c.in_ok-settled.ensures.kept ∙ first_known rules c.space-space.result own ms for.session.end for.may_go known,
+      c.in_ok-settled.ensures.acts ∙ acts_known rules c.args.key c.space-space.result own ms for.session.end for.may_go known,
+    )
 
 pub returns-then-branch-clause-ready : goal.returns-then-branch-clause-ready
 returns-then-branch-clause-ready c =
