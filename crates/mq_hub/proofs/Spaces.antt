@@ -1,5 +1,5 @@
 -- What a session has room for after a message is queued for its client.
-use Rattle.std.proofs.Common.{◌≡◌, ℕ, ◌+◌, ◌-◌, Bool, true, false, cond, List, [], ◌∷◌, ◌++◌, length, Option, Some, None, refl, sym, ap, ap₂, ◌∙◌, append-nil, arith, zero-add}
+use Rattle.std.proofs.Common.{◌≡◌, ℕ, ◌+◌, ◌-◌, Bool, true, false, cond, not, ◌&&◌, ◌||◌, List, [], ◌∷◌, ◌++◌, length, Option, Some, None, refl, sym, ap, ap₂, ◌∙◌, append-nil, arith, eqb, zero-add}
 use Rattle.std.proofs.lemmas.Bool.{cond-true}
 use Rattle.std.proofs.lemmas.List.{length-append}
 use Rattle.std.proofs.lemmas.List.Sums.{sum_by_push}
@@ -20,10 +20,11 @@ use Rattle.mq_end.specs.Both.{has_identifier, publishes_at}
 use Rattle.mq_end.specs.End.{End, is_up}
 use Rattle.mq_end.specs.Sizes.{identifier_size, publish_size}
 use Rattle.mq_end.specs.State.{EndState}
-use Rattle.mq_route.specs.Work.{leaves, publish_bytes, publishes_next}
+use Rattle.mq_route.specs.Work.{drops_copies, leaves, publish_bytes, publishes_next}
 use Rattle.mq_hub.specs.declared.publish.rules.CopyRules.{CopyRules}
+use Rattle.mq_hub.specs.declared.publish.space.Space.{Space}
 use Rattle.mq_hub.specs.Inside.Placement.{published}
-use Rattle.mq_hub.specs.Inside.Rules.{fits_left, free_of, left_of, space_after, space_of}
+use Rattle.mq_hub.specs.Inside.Rules.{fits_left, free_of, left_of, skips, space_after, space_of}
 use Rattle.mq_hub.proofs.EndPublishes.{after_state, after_uses}
 
 -- ---- limits
@@ -119,3 +120,36 @@ same_space rules queued s t capacity book output =
     let stored = ap (λ (b : SenderBook). left_of rules.most_stored (stored_bytes b)) book in
     let waiting = ap (λ (n : ℕ). left_of rules.most_waiting n) (zero-add (length s.output) ∙ output) in
     λ i. record { free = free i; stored = stored i; waiting = waiting i }
+
+-- ---- whether a message is missed
+
+-- one of QoS 0
+pub skips_plain : (rules : CopyRules) (space : Space) (m : Message) (fits : Bool) (bytes : ℕ) → has_identifier m.qos ≡ false → bytes ≡ publish_bytes m → fits ≡ fits_left space.waiting bytes
+    → not fits ≡ skips rules space m
+skips_plain rules space m fits bytes plain bytes_is fits_is =
+    ap not (fits_is ∙ ap (fits_left space.waiting) bytes_is)
+    ∙ go (drops_copies rules.when_full) (fits_left space.waiting (publish_bytes m))
+    ∙ ap (λ (b : Bool). (drops_copies rules.when_full && (b && (eqb space.free 0 || not (fits_left space.stored (message_bytes m)))))
+    || (not (fits_left space.waiting (publish_bytes m)) && not b)) (sym plain)
+  where
+    go : (d f : Bool) → not f ≡ ((d && false) || (not f && true))
+    go true true = refl
+    go true false = refl
+    go false true = refl
+    go false false = refl
+
+-- one of QoS 1 or 2
+pub skips_kept : (rules : CopyRules) (space : Space) (m : Message) (drops short : Bool) → has_identifier m.qos ≡ true → drops ≡ drops_copies rules.when_full
+    → short ≡ (eqb space.free 0 || not (fits_left space.stored (message_bytes m))) → (drops && short) ≡ skips rules space m
+skips_kept rules space m drops short has drops_is short_is =
+    ap₂ (λ (a b : Bool). a && b) drops_is short_is
+    ∙ go (drops_copies rules.when_full) (eqb space.free 0 || not (fits_left space.stored (message_bytes m))) (fits_left space.waiting (publish_bytes m))
+    ∙ ap (λ (b : Bool). (drops_copies rules.when_full && (b && (eqb space.free 0 || not (fits_left space.stored (message_bytes m)))))
+    || (not (fits_left space.waiting (publish_bytes m)) && not b)) (sym has)
+  where
+    go : (d x f : Bool) → (d && x) ≡ ((d && (true && x)) || (not f && false))
+    go true true f = refl
+    go true false true = refl
+    go true false false = refl
+    go false x true = refl
+    go false x false = refl

@@ -256,14 +256,24 @@ pub(crate) fn config(alloc: Global, kind: Kind) -> Result<HubConfig, Fail>
     })
 }
 
+// The number of bytes that an event collects.
+fn pending<S: FilterStore>(hub: &HubOver<S>, event: &HubEvent) -> usize {
+    match event {
+        HubEvent::Collect(conn) => hub.pending(*conn),
+        _ => 0,
+    }
+}
+
 pub(crate) fn answer<S: FilterStore>(
     alloc: Global,
     hub: &mut HubOver<S>,
     happens: Happens,
 ) -> Result<String, Fail> {
     let event = event(alloc, happens)?;
+    let pending = pending(hub, &event);
     match hub.step(&event) {
-        Ok(reply) => told(alloc, &reply),
+        Ok(reply) if reply.output.len() == pending => told(alloc, &reply),
+        Ok(_) => Ok(String::from_str(alloc, "another number of bytes was pending")?),
         Err(why) => Ok(String::from_str(alloc, why.code())?),
     }
 }

@@ -1,8 +1,8 @@
 //! The room of a session.
 
-ghost use Rattle.std.specs.Prelude.{◌≡◌, ◌+◌, length, true};
+ghost use Rattle.std.specs.Prelude.{◌≡◌, ◌==◌, ◌||◌, ◌+◌, length, not, true};
 ghost use Rattle.mq_end.specs.Both.{has_identifier};
-ghost use Rattle.mq_flow.specs.Stored.{stored_bytes};
+ghost use Rattle.mq_flow.specs.Stored.{message_bytes, stored_bytes};
 ghost use Rattle.mq_hub.specs.Inside.Rules.{fits_left, left_of, skips, space_after, space_of};
 
 use crate::publish::rules::CopyRules;
@@ -68,9 +68,8 @@ pub(crate) fn stored_left(end: &ServerEnd, most_stored: Option<u64>) -> Option<u
 pub(crate) fn waiting_left(end: &ServerEnd, most_waiting: Option<u64>, queued: usize) -> Option<u64>
     ensures { result ≡ left_of most_waiting (queued + length end.now.output) }
 {
-    let most = most_waiting?;
-    let left = most.saturating_sub(queued as u64);
-    Some(left.saturating_sub(end.output().len() as u64))
+    let rest = left_of(most_waiting, queued as u64);
+    left_of(rest, end.output().len() as u64)
 }
 
 /// Returns the room of an end's session, after this number of bytes is queued.
@@ -85,6 +84,13 @@ pub(crate) fn space_of(end: &ServerEnd, rules: CopyRules, queued: usize) -> Spac
 }
 
 impl Space {
+    // Whether no identifier is free for a message, or its bytes may not be stored.
+    fn is_short(&self, message: &Message) -> bool
+        ensures { result ≡ (self.now.free == 0 || not (fits_left self.now.stored (message_bytes message.now))) }
+    {
+        self.free == 0 || !fits_left(self.stored, message_bytes(message))
+    }
+
     /// Whether a message is missed.
     pub(crate) fn skips(&self, rules: CopyRules, message: &Message) -> bool
         ensures { result ≡ skips rules self.now message.now }
@@ -92,7 +98,10 @@ impl Space {
         if !has_identifier(message) {
             return !fits_left(self.waiting, publish_len(message) as u64);
         }
-        rules.drops_copies() && (self.free == 0 || !fits_left(self.stored, message_bytes(message)))
+        if !rules.drops_copies() {
+            return false;
+        }
+        self.is_short(message)
     }
 
     /// Returns the rest after a message is queued for a connected client.
