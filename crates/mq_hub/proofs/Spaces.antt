@@ -34,7 +34,7 @@ leaves_is None used more = refl
 leaves_is (Some most) used more = refl
 
 -- what a limit leaves after more is used
-left_twice : (o : Option ℕ) (used total more : ℕ) → total ≡ used + more → left_of o total ≡ left_of (left_of o used) more
+pub left_twice : (o : Option ℕ) (used total more : ℕ) → total ≡ used + more → left_of o total ≡ left_of (left_of o used) more
 left_twice None used total more e = refl
 left_twice (Some most) used total more e =
     let same : most - total ≡ most - used - more = omega (arith, e) in

@@ -1,4 +1,4 @@
-use Rattle.std.proofs.Common.{◌≡◌, ℕ, ◌≤◌, ◌∙◌, IsSome, List, ◌∷◌, [], length, nat_eq, ap, subst, sym, arith}
+use Rattle.std.proofs.Common.{◌≡◌, ℕ, ◌≤◌, ◌-◌, ◌∙◌, IsSome, List, ◌∷◌, [], length, nat_eq, ap, subst, sym, arith}
 use Rattle.std.proofs.lemmas.List.{length-append}
 use Rattle.std.specs.Map.{lookup, remove_entry}
 use Rattle.mq_flow.specs.declared.table.Held.TheVariants.{Released}
@@ -8,12 +8,6 @@ use Rattle.mq_flow.proofs.Slots.{length_turned}
 use Rattle.mq_flow.proofs.StoredBytes.{counted_released}
 use Rattle.mq_flow.proofs.table.Table.release.Goals as goal
 
-pub overflow_sub_assign-self-inside-bytes : goal.overflow_sub_assign-self-inside-bytes
-overflow_sub_assign-self-inside-bytes c =
-    let sum = c.self.invariant.2.sum in
-    let within = c.bytes_of.ensures.within in
-    omega arith
-
 pub invariant_of-self : goal.invariant_of-self
 invariant_of-self c =
     let ps = pairs_in c.self.inside.slots.items in
@@ -22,7 +16,9 @@ invariant_of-self c =
     let l = length_turned c.args.id ps there in
     let w = c.self.invariant.1 in
     let k = c.turn_last.ensures.capacity in
-    (c.turn_last.ensures.placed, omega arith, counted_released c.self.inside.bytes c.args.id ps (pairs_in c.turn_last.new.slots.items) c.turn_last.ensures.pairs c.self.invariant.2)
+    let own : c.bytes_of.result ≡ bytes_under c.args.id ps = c.bytes_of.ensures.value ∙ ap (λ (v : Kept). bytes_under c.args.id v.pairs) (sym c.self.view_is) in
+    let counted = counted_released c.self.inside.bytes c.args.id ps (pairs_in c.turn_last.new.slots.items) c.turn_last.ensures.pairs c.self.invariant.2 in
+    (c.turn_last.ensures.placed, omega arith, subst (λ (n : ℕ). AreCounted (c.self.inside.bytes - n) (messages (pairs_in c.turn_last.new.slots.items))) (sym own) counted)
 
 pub returns-clause-spare : goal.returns-clause-spare
 returns-clause-spare c =
