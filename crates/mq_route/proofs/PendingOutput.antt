@@ -94,13 +94,16 @@ plain_bytes m is =
 
 -- ---- one connection
 
+-- the pending output is at most this number of bytes, and the packets that were sent and are no
+-- PUBLISH of QoS 0
+record IsBounded (n : Conn) (most base : ℕ) (w : Work) : Type 0 where
+  known : knows n w.hub.connections ≡ true
+  limit : w.hub.config.most_waiting ≡ Some most
+  bytes : length (waiting_on n w.hub.connections) ≤ base + other_bytes (on_conn n w.sent)
+
 module _ (n : Conn) (most base : ℕ) (low : most ≤ base) where
-  -- the pending output is at most this number of bytes, and the packets that were sent and are no
-  -- PUBLISH of QoS 0
-  record Bounded (w : Work) : Type 0 where
-    known : knows n w.hub.connections ≡ true
-    limit : w.hub.config.most_waiting ≡ Some most
-    bytes : length (waiting_on n w.hub.connections) ≤ base + other_bytes (on_conn n w.sent)
+  abbrev Bounded : Work → Type 0
+  Bounded w = IsBounded n most base w
 
   abbrev Bounds : Debt → Work → Type 0
   Bounds o w = Bounded w
@@ -125,11 +128,8 @@ module _ (n : Conn) (most base : ℕ) (low : most ≤ base) where
     bytes = go (same_conn k n) refl;
   }
     where
-      old : List Packet
-      old = on_conn n w.sent
-
-      sent : (ps2 : List Packet) → on_conn n (map (λ p. (k, p)) ps) ≡ ps2 → on_conn n (w.sent ++ map (λ p. (k, p)) ps) ≡ old ++ ps2
-      sent ps2 is = on_conn-append n w.sent (map (λ p. (k, p)) ps) ∙ ap (λ (l : List Packet). old ++ l) is
+      sent : (ps2 : List Packet) → on_conn n (map (λ p. (k, p)) ps) ≡ ps2 → on_conn n (w.sent ++ map (λ p. (k, p)) ps) ≡ (on_conn n w.sent) ++ ps2
+      sent ps2 is = on_conn-append n w.sent (map (λ p. (k, p)) ps) ∙ ap (λ (l : List Packet). (on_conn n w.sent) ++ l) is
 
       go : (b : Bool) → same_conn k n ≡ b
           → length (waiting_on n (with_connection (grown (encodings ps)) k w.hub.connections)) ≤ base + other_bytes (on_conn n (w.sent ++ map (λ p. (k, p)) ps))
@@ -137,12 +137,12 @@ module _ (n : Conn) (most base : ℕ) (low : most ≤ base) where
           let now : waiting_on n (with_connection (grown (encodings ps)) k w.hub.connections) ≡ waiting_on n w.hub.connections ++ encodings ps =
           ap (λ (j : Conn). waiting_on n (with_connection (grown (encodings ps)) j w.hub.connections)) (one_conn k n e) ∙ put_here n (encodings ps) w.hub.connections r.known in
           let long = ap length now ∙ length-append (waiting_on n w.hub.connections) (encodings ps) in
-          let others = ap other_bytes (sent ps (on_conn-own k n ps e)) ∙ other_append old ps in
+          let others = ap other_bytes (sent ps (on_conn-own k n ps e)) ∙ other_append (on_conn n w.sent) ps in
           let enough = fits e in
           omega arith
       go false e =
           let now = put_there k n (grown (encodings ps)) w.hub.connections (names_grown (encodings ps)) e in
-          let others = ap other_bytes (sent [] (on_conn-other k n ps e) ∙ append-nil old) in
+          let others = ap other_bytes (sent [] (on_conn-other k n ps e) ∙ append-nil (on_conn n w.sent)) in
           let long = ap length now in
           let bytes = r.bytes in
           omega arith
