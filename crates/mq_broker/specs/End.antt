@@ -16,3 +16,4 @@ end_status ends.AddressInUse = 1
 end_status ends.AddressRefused = 1
 end_status ends.Listener = 1
 end_status ends.Journal = 1
+end_status (ends.Store why) = 1

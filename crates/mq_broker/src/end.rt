@@ -5,6 +5,7 @@ ghost use Rattle.mq_broker.specs.End.{end_status};
 ghost use Rattle.mq_broker.specs.declared.end.BrokerEnd.TheVariants.{PacketLimit};
 
 use mq_loop::CommitFailure;
+use mq_store::StoreError;
 use std::alloc::AllocError;
 use std::io;
 use std::io::ErrorKind;
@@ -34,6 +35,9 @@ pub enum BrokerEnd {
     /// The journal failed. No output of the events that it lacks was sent.
     #[error("the journal failed")]
     Journal,
+    /// The folder of the journal can't be used.
+    #[error("{0}")]
+    Store(StoreError),
 }
 
 impl BrokerEnd {
@@ -49,7 +53,18 @@ impl BrokerEnd {
             BrokerEnd::AddressInUse
             | BrokerEnd::AddressRefused
             | BrokerEnd::Listener
-            | BrokerEnd::Journal => 1,
+            | BrokerEnd::Journal
+            | BrokerEnd::Store(_) => 1,
+        }
+    }
+
+    /// Why the folder of the journal can't be used.
+    pub(crate) fn of_store(error: StoreError) -> BrokerEnd
+        ensures { result ≢ PacketLimit }
+    {
+        match error {
+            StoreError::Memory => BrokerEnd::Memory,
+            _ => BrokerEnd::Store(error),
         }
     }
 

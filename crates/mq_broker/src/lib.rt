@@ -13,11 +13,14 @@ mod log;
 mod missed;
 mod options;
 mod peers;
+mod recovered;
 mod rows;
 mod server;
+mod site;
 mod status_port;
 
 pub use crate::end::BrokerEnd;
 pub use crate::log::{Log, LogLevel};
 pub use crate::options::BrokerOptions;
+pub use crate::recovered::RecoveredBroker;
 pub use crate::server::run_broker;

@@ -3,8 +3,8 @@
 ghost use Rattle.std.specs.Prelude.{◌≡◌, false, codes, IfOk, IfSome};
 ghost use Rattle.clap.specs.Words.{app_of, rule_of, subcommand_rows_of};
 ghost use Rattle.clap.specs.declared.builder.command.Command.TheViews.{out-Command};
-ghost use Rattle.mq_cli.specs.CommandLine.{IsBroker, IsLimit, IsOnFull, IsPatience, IsTime, full_word};
-ghost use Rattle.mq_cli.specs.Grammar.{broker_words, limit_rule, with_extras, with_limits, with_logs, with_patience, with_tables};
+ghost use Rattle.mq_cli.specs.CommandLine.{IsBroker, IsKeep, IsLimit, IsOnFull, IsPatience, IsTime, full_word, keep_word};
+ghost use Rattle.mq_cli.specs.Grammar.{broker_words, limit_rule, with_extras, with_limits, with_logs, with_patience, with_store, with_tables};
 
 use crate::grammar::{Texts, file_option, flag, new_command, with_arg};
 use crate::words::{flag_of, given_of, number_of};
@@ -22,6 +22,15 @@ pub enum OnFull {
     Drop,
     /// The publisher's connection is closed.
     Close,
+}
+
+/// What the journal of a broker survives.
+#[derive(Clone, Copy, Debug, PartialEq, Eq)]
+pub enum Survives {
+    /// The end of the process.
+    System,
+    /// The end of the machine's power.
+    Disk,
 }
 
 /// A broker that runs until it is stopped.
@@ -47,6 +56,10 @@ pub struct Broker<'a> {
     pub passwords: Option<&'a str>,
     /// The address and the port of the metrics, as given.
     pub metrics: Option<&'a str>,
+    /// The folder of the journal; `None` keeps nothing.
+    pub folder: Option<&'a str>,
+    /// What the journal survives.
+    pub keep: Survives,
     /// The file of the log; `None` for the standard error.
     pub log: Option<&'a str>,
     /// The log has no lines.
@@ -142,6 +155,18 @@ fn with_extras<'a>(alloc: Global, command: Command<'a>) -> Result<Command<'a>, A
     with_arg(command, file_option(alloc, "METRICS", "metrics", help))
 }
 
+// The command with the options of the journal.
+fn with_store<'a>(alloc: Global, command: Command<'a>) -> Result<Command<'a>, AllocError>
+    ensures words { IfOk result (λ new. app_of new ≡ with_store (app_of command.entry)) }
+    ensures local { IfOk result (λ new. (out-Command new).has_globals ≡ (out-Command command.entry).has_globals) }
+{
+    let help = "Keeps a journal in this folder, and recovers the broker from it";
+    let command = with_arg(command, file_option(alloc, "DATA", "data", help))?;
+    let help =
+        "What the journal survives: `system`, a kill; `disk`, also a loss of power [default: disk]";
+    with_arg(command, file_option(alloc, "KEEP", "keep", help))
+}
+
 // The command with the options of the log.
 fn with_logs<'a>(alloc: Global, command: Command<'a>) -> Result<Command<'a>, AllocError>
     ensures words { IfOk result (λ new. app_of new ≡ with_logs (app_of command.entry)) }
@@ -173,6 +198,7 @@ pub(crate) fn broker_command<'a>(alloc: Global) -> Result<Command<'a>, AllocErro
     let command = with_limits(alloc, command)?;
     let command = with_patience(alloc, command)?;
     let command = with_extras(alloc, command)?;
+    let command = with_store(alloc, command)?;
     with_logs(alloc, command)
 }
 
@@ -243,10 +269,33 @@ fn on_full_of(matches: &ArgMatches<'_>) -> Option<OnFull>
     }
 }
 
+// The choice of `--keep`.
+fn survives_of(text: &str) -> Option<Survives>
+    ensures { IfSome result (λ choice. text.now ≡ keep_word choice) }
+{
+    match text {
+        "system" => Some(Survives::System),
+        "disk" => Some(Survives::Disk),
+        _ => None,
+    }
+}
+
+fn keep_of(matches: &ArgMatches<'_>) -> Option<Survives>
+    ensures { IfSome result (IsKeep (subcommand_rows_of matches.now)) }
+{
+    match given_of(matches, "broker", "KEEP")? {
+        None => Some(Survives::Disk),
+        Some(text) => survives_of(text),
+    }
+}
+
 /// The error for arguments of `broker` that the parser accepts although they are not valid.
 pub(crate) fn broker_complaint(matches: &ArgMatches<'_>) -> &'static str {
-    match patience_of(matches) {
-        None => "--connect-within wants seconds, from 1 to 4294967295, or never",
+    if patience_of(matches).is_none() {
+        return "--connect-within wants seconds, from 1 to 4294967295, or never";
+    }
+    match keep_of(matches) {
+        None => "--keep wants system or disk",
         Some(_) => "--when-full wants drop or close",
     }
 }
@@ -266,6 +315,8 @@ pub(crate) fn broker_of<'a>(matches: &ArgMatches<'a>) -> Option<Broker<'a>>
         when_full: on_full_of(matches)?,
         passwords: given_of(matches, "broker", "PASSWORDS")?,
         metrics: given_of(matches, "broker", "METRICS")?,
+        folder: given_of(matches, "broker", "DATA")?,
+        keep: keep_of(matches)?,
         log: given_of(matches, "broker", "LOG")?,
         quiet: flag_of(matches, "broker", "QUIET")?,
         verbose: flag_of(matches, "broker", "VERBOSE")?,

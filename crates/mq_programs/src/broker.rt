@@ -3,7 +3,8 @@
 ghost use Rattle.std.specs.Prelude.{◌≡◌, ◌*◌, option_map};
 ghost use Rattle.mq_programs.specs.Options.{argument_status, when_full_of};
 
-use mq_broker::{BrokerEnd, BrokerOptions, Log, LogLevel, run_broker};
+use crate::kept::open_folder;
+use mq_broker::{BrokerEnd, BrokerOptions, Log, LogLevel, RecoveredBroker, run_broker};
 use mq_cli::{Broker, OnFull};
 use mq_route::WhenFull;
 use mq_status::{PasswordsError, UserTables, read_users};
@@ -185,6 +186,48 @@ fn level_of(words: &Broker<'_>) -> LogLevel {
     }
 }
 
+// A broker that is ready to run.
+#[derive(Drop)]
+enum Ready {
+    /// It keeps nothing.
+    Plain(BrokerOptions),
+    /// It keeps a journal.
+    Kept(RecoveredBroker),
+}
+
+impl Ready {
+    fn run<R: Net + Clock, W: Write, L: Write + Drop>(
+        self,
+        rt: &R,
+        alloc: Global,
+        output: &mut W,
+        log: Log<L>,
+    ) -> BrokerEnd {
+        match self {
+            Ready::Plain(options) => run_broker(rt, alloc, options, output, log),
+            Ready::Kept(broker) => broker.run(rt, alloc, output, log),
+        }
+    }
+}
+
+// Recovers the broker, if it keeps a journal.
+fn ready<R: Clock + Files<File = File>, E: Write>(
+    rt: &R,
+    alloc: Global,
+    errors: &mut E,
+    words: &Broker<'_>,
+    options: BrokerOptions,
+) -> Result<Ready, BrokerEnd> {
+    match words.folder {
+        Some(folder) => {
+            let keep = words.keep;
+            let broker = open_folder(rt, alloc, errors, options, folder, keep)?;
+            Ok(Ready::Kept(broker))
+        }
+        None => Ok(Ready::Plain(options)),
+    }
+}
+
 // Runs the broker, with its log in a file or at `errors`.
 fn run_logged<'a, R, W, E>(
     rt: &R,
@@ -200,13 +243,17 @@ where
 {
     let options = options_of(rt, alloc, words)?;
     let level = level_of(words);
+    let broker = match ready(rt, alloc, errors, words, options) {
+        Ok(broker) => broker,
+        Err(end) => return Ok(end),
+    };
     match words.log {
         None => {
             let Ok(buffer) = BufWriter::new(alloc, errors) else {
                 return Err(ArgumentError::Memory);
             };
             let log = Log::new(alloc, buffer, level);
-            Ok(run_broker(rt, alloc, options, output, log))
+            Ok(broker.run(rt, alloc, output, log))
         }
         Some(name) => {
             let Ok(file) = OpenOptions::new().append(true).create(true).open(rt, name) else {
@@ -216,7 +263,7 @@ where
                 return Err(ArgumentError::Memory);
             };
             let log = Log::new(alloc, buffer, level);
-            Ok(run_broker(rt, alloc, options, output, log))
+            Ok(broker.run(rt, alloc, output, log))
         }
     }
 }

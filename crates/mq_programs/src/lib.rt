@@ -8,6 +8,7 @@
 mod broker;
 mod clients;
 mod drawing;
+mod kept;
 mod loopback;
 mod password;
 mod reason;
@@ -16,6 +17,7 @@ mod server;
 pub use crate::broker::run_broker_command;
 pub use crate::clients::{run_client, run_collect, run_publish};
 pub use crate::drawing::run_draw;
+pub use crate::kept::run_journal;
 pub use crate::loopback::run_loopback;
 pub use crate::password::run_password;
 pub use crate::server::{run_serve, run_serve_on};
