@@ -42,7 +42,7 @@ pub(crate) fn open_folder<R: Clock + Files<File = File>, E: Write>(
 ) -> Result<RecoveredBroker, BrokerEnd> {
     let began = Instant::now(rt).ok();
     let broker = RecoveredBroker::open(rt, alloc, options, folder, keep_of(keep))?;
-    let (events, sessions) = (broker.events(), broker.hub().sessions()?.len());
+    let (events, sessions) = (broker.events(), broker.hub().counts().sessions);
     let time = since(rt, began);
     let _ = writeln!(
         errors,
