@@ -11,8 +11,7 @@ ghost use Rattle.mq_client.specs.Printed.{halt_line, message_line, payload_word,
 use crate::client::LoadFailure;
 use crate::error::ClientError;
 use mq_end::Happening;
-use mq_line::{Escaped, Hex};
-use mq_packet::Message;
+use mq_packet::{EscapedText, Hex, Message};
 use std::alloc::Global;
 use std::io::{ErrorKind, Write};
 use std::{fmt, io};
@@ -110,7 +109,7 @@ fn write_message<W: Write>(output: &mut W, message: &Message) -> io::Result<()>
     ensures { OnOk result
         (Appends (W.contents output.old) (W.contents output.new) (message_line message.now)) }
 {
-    let topic = Escaped(message.topic.as_str());
+    let topic = EscapedText(message.topic.as_str());
     let qos = message.qos.number();
     let payload = PayloadWord(message.payload.as_slice());
     writeln!(output, "{topic} {qos} {payload}")

@@ -9,8 +9,7 @@ use crate::client::{Client, Role};
 use crate::rig::RunError;
 use crate::verdict::Verdict;
 use mq_client::write_halt;
-use mq_line::Escaped;
-use mq_packet::Message;
+use mq_packet::{EscapedText, Message};
 use mq_schedule::BytesWord;
 use mq_serve::write_end;
 use mq_wire::Text;
@@ -24,8 +23,8 @@ const BAD_INPUT: u8 = 2;
 fn write_message<W: Write>(output: &mut W, name: &Text, message: &Message) -> io::Result<()>
     ensures { OnOk result (Appends (W.contents output.old) (W.contents output.new) (message_line name.now message.now)) }
 {
-    let name = Escaped(name.as_str());
-    let topic = Escaped(message.topic.as_str());
+    let name = EscapedText(name.as_str());
+    let topic = EscapedText(message.topic.as_str());
     let payload = BytesWord(message.payload.as_slice());
     writeln!(output, "{name} {topic} {payload}")
 }

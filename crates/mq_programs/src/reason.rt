@@ -2,8 +2,7 @@
 
 use mq_client::{ClientError, Halt, LoadFailure, SaveError, Stop};
 use mq_end::CloseReason;
-use mq_line::Escaped;
-use mq_packet::RefusalCode;
+use mq_packet::{EscapedText, RefusalCode};
 use mq_topic::{Qos, TopicFault};
 use std::io::{ErrorKind, Write};
 use std::{fmt, io};
@@ -109,7 +108,7 @@ fn write_halt<E: Write>(errors: &mut E, stopped: &Stopped<'_>, halt: Halt) -> io
         (ClientError::NotSubscribed, Progress::Messages(_, filter)) => writeln!(
             errors,
             "mqtt: the broker refused the subscription to '{}'",
-            Escaped(filter)
+            EscapedText(filter)
         ),
         (ClientError::NotSubscribed, Progress::Texts(..)) => Ok(()),
         (ClientError::SaveError(kind), _) => {
@@ -185,7 +184,7 @@ pub(crate) fn explain_topic<E: Write>(errors: &mut E, kind: &str, topic: &str, f
         _ => writeln!(
             errors,
             "mqtt: topic {kind} '{}': {text} ({code})",
-            Escaped(topic)
+            EscapedText(topic)
         ),
     };
 }

@@ -3,8 +3,7 @@
 ghost use Rattle.std.specs.Prelude.{Some};
 ghost use Rattle.mq_replay.specs.Printing.{handed_text, id_word};
 
-use mq_line::Escaped;
-use mq_packet::{Message, PacketId};
+use mq_packet::{EscapedText, Message, PacketId};
 use mq_schedule::BytesWord;
 use std::fmt;
 
@@ -32,7 +31,7 @@ impl fmt::Display for HandedText<'_> {
 
     fn fmt<W: fmt::Write>(&self, f: &mut fmt::Formatter<W>) -> fmt::Result {
         let qos = self.0.qos.number();
-        let topic = Escaped(self.0.topic.as_str());
+        let topic = EscapedText(self.0.topic.as_str());
         let payload = BytesWord(self.0.payload.as_slice());
         write!(f, "got {qos} {topic} {payload}")
     }

@@ -23,3 +23,4 @@ mod Logging
 mod Reading
 mod Silence
 mod Clients
+mod Bounds

@@ -19,3 +19,4 @@ pub mod Reading
 pub mod StepSome
 pub mod Silent
 pub mod Clients
+pub mod Bounds

@@ -6,6 +6,7 @@
 #![tactic(auto)]
 
 mod act;
+mod bounds;
 mod close;
 mod config;
 mod conn;
@@ -17,6 +18,7 @@ mod reply;
 mod trace;
 
 pub use crate::act::Act;
+pub use crate::bounds::{bounds_laws, broker_laws, sharp_laws};
 pub use crate::close::HubClose;
 pub use crate::config::{HashedUser, HubConfig, User, WhenFull};
 pub use crate::conn::Conn;

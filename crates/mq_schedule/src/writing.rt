@@ -10,8 +10,7 @@ ghost use Rattle.mq_schedule.specs.Parts.{KeepsBounds};
 ghost use Rattle.mq_schedule.specs.Writing.{line_with, schedule_text, step_line, world_words};
 
 use crate::schedule::{Schedule, Step};
-use mq_line::{Escaped, Hex};
-use mq_packet::Message;
+use mq_packet::{EscapedText, Hex, Message};
 use mq_world::{Event, Side};
 use std::alloc::{AllocError, Global};
 use std::fmt;
@@ -78,7 +77,7 @@ fn write_publication(text: &mut String, side: Side, message: &Message) -> Result
     let command = if message.retain { "pubr" } else { "pub" };
     let side = SideWord(side);
     let qos = message.qos.number();
-    let topic = Escaped(message.topic.as_str());
+    let topic = EscapedText(message.topic.as_str());
     let payload = word_of(message.payload.as_slice());
     writeln!(text, "{command} {side} {qos} {topic} {payload}")
 }

@@ -7,7 +7,7 @@ ghost use Rattle.mq_serve.specs.Ends.{end_status};
 ghost use Rattle.mq_serve.specs.Printed.{end_line, end_lines, session_line};
 
 use crate::serve_end::ServeEnd;
-use mq_line::Escaped;
+use mq_packet::EscapedText;
 use mq_wire::Text;
 use std::io;
 use std::io::Write;
@@ -29,7 +29,7 @@ pub fn write_end<W: Write>(output: &mut W, end: ServeEnd) -> io::Result<u8>
 fn write_session<W: Write>(output: &mut W, name: &Text) -> io::Result<()>
     ensures { OnOk result (Appends (W.contents output.old) (W.contents output.new) (session_line name.now)) }
 {
-    let name = Escaped(name.as_str());
+    let name = EscapedText(name.as_str());
     writeln!(output, "session {name}")
 }
 

@@ -6,14 +6,13 @@ ghost use Rattle.std.specs.Io.KnownBytes.{Appends};
 ghost use Rattle.mq_status.specs.Log.{LogLaws, close_text, close_words, line_text, refusal_text, refusal_words};
 
 use mq_end::CloseReason;
-use mq_line::Escaped;
-use mq_packet::RefusalCode;
+use mq_packet::{EscapedText, RefusalCode};
 use mq_route::HubClose;
 use std::io::Write;
 use std::{fmt, io};
 
 /// An event that the log reports in one line. Clients and addresses are printed as by
-/// [`mq_line::Escaped`], so that no client can break or forge a line.
+/// [`mq_packet::EscapedText`], so that no client can break or forge a line.
 #[derive(Clone, Copy)]
 pub enum LogLine<'a> {
     /// A client is connected.
@@ -87,34 +86,34 @@ impl fmt::Display for LogLine<'_> {
     fn fmt<W: fmt::Write>(&self, f: &mut fmt::Formatter<W>) -> fmt::Result {
         match *self {
             LogLine::Connected { client, address } => {
-                let (client, address) = (Escaped(client), Escaped(address));
+                let (client, address) = (EscapedText(client), EscapedText(address));
                 write!(f, "connected client={client} address={address}")
             }
             LogLine::ClosedEarly { address, reason } => {
-                let address = Escaped(address);
+                let address = EscapedText(address);
                 write!(f, "closed address={address}")?;
                 write_close(f, reason)
             }
             LogLine::Closed { client, reason } => {
-                let client = Escaped(client);
+                let client = EscapedText(client);
                 write!(f, "closed client={client}")?;
                 write_close(f, reason)
             }
             LogLine::SessionEnded { client } => {
-                let client = Escaped(client);
+                let client = EscapedText(client);
                 write!(f, "session-ended client={client}")
             }
             LogLine::Missed { client, messages } => {
-                let client = Escaped(client);
+                let client = EscapedText(client);
                 write!(f, "missed client={client} messages={messages}")
             }
             LogLine::Refused { address, code } => {
-                let address = Escaped(address);
+                let address = EscapedText(address);
                 write!(f, "refused address={address}")?;
                 write_refusal(f, code)
             }
             LogLine::Slow { client, pending } => {
-                let client = Escaped(client);
+                let client = EscapedText(client);
                 write!(f, "slow client={client} pending={pending}")
             }
         }

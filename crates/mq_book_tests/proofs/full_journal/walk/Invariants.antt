@@ -1,4 +1,0 @@
-use Rattle.mq_book_tests.proofs.full_journal.walk.Given as goal
-
-abbrev pub ghosts-served : goal.ghosts-served
-ghosts-served g a = record { name = a.blank.name; parts = a.blank.parts }

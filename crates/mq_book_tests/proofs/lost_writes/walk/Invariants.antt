@@ -1,4 +1,0 @@
-use Rattle.mq_book_tests.proofs.lost_writes.walk.Given as goal
-
-abbrev pub ghosts-served_text : goal.ghosts-served_text
-ghosts-served_text g a = record { name = a.blank.name; parts = a.blank.parts }

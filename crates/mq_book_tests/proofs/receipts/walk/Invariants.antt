@@ -1,4 +1,0 @@
-use Rattle.mq_book_tests.proofs.receipts.walk.Given as goal
-
-abbrev pub ghosts-journal : goal.ghosts-journal
-ghosts-journal g a = record { name = a.blank.name; parts = a.blank.parts }

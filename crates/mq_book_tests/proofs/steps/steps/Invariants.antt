@@ -1,4 +1,0 @@
-use Rattle.mq_book_tests.proofs.steps.steps.Given as goal
-
-abbrev pub ghosts-walk : goal.ghosts-walk
-ghosts-walk g a = record { name = a.blank.name; parts = a.blank.parts }

@@ -1,5 +1,0 @@
-use Rattle.mq_bounds.proofs.Ends.{laws}
-use Rattle.mq_bounds.proofs.laws.bounds_laws.Goals as goal
-
-pub returns : goal.returns
-returns c = laws c.encoding_laws.ensures c.pending_is_short.ensures c.closing_laws.ensures c.window_laws.ensures

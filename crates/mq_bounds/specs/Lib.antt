@@ -1,5 +1,0 @@
-pub mod Costs
-pub mod Waiting
-pub mod Bounds
-pub mod Sharp
-pub mod Broker
