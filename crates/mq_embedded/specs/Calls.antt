@@ -64,7 +64,7 @@ abbrev pub Receives : List ℕ → WithEvents → WithEvents → Result (Option 
 Receives bytes old new (Ok closed) = (old.events ≡ []) × Hears bytes old new closed
 Receives bytes old new (Err why) = (why ≡ faults.Events) × (old.events ≡ [] → ⊥) × (new ≡ old)
 
--- The first pending bytes are moved to the front of a buffer: all, or as many as fit.
+-- The first pending bytes are moved to the front of a buffer: all, or the number that fits.
 abbrev pub TakesOutput : ℕ → WithEvents → WithEvents → List ℕ → List ℕ → Type 0
 TakesOutput count old new room filled =
     (count ≡ min (length old.end.link.output) (length room))

@@ -18,7 +18,7 @@ Good τ v = T (has_ty τ v) × WT v
 abbrev pub word : Ptr → Val
 word p = vstruct (vcons (ptr_val p) vnil)
 
--- a struct by its field alone: what it owns does not read its name
+-- a struct by its field alone: its ownership does not depend on its name
 abbrev pub field_own : Ptr → List Val → Fml
 field_own p = (Struct (record { name = []; args = []; types = []; fields = RawPtr ∷ [] })).own_val (p, tt)
 

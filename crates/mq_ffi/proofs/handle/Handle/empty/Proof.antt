@@ -1,4 +1,4 @@
--- `empty` owns nothing beside its pointer.
+-- `empty` owns only its pointer.
 use Rattle.std.proofs.Common.{◌≡◌, [], ◌∷◌, refl}
 use Rattle.std.specs.Prelude.{None}
 use mir.Syntax.{Fn}
