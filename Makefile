@@ -7,7 +7,7 @@ ARGS ?= --help
 STREAMS ?= small publish16 publish1024 publish65536 mixed
 export RT
 
-.PHONY: all help test prove lib lib-test program interop refusals install install-lib try bench-c bench-lib bench-loopback bench-brokers clean
+.PHONY: all help test prove lib lib-test program interop refusals install install-lib try bench-c bench-lib bench-ends bench-loopback bench-brokers clean
 
 # Stops with one line if the kit's command, or a C compiler, is missing.
 need_kit = $(if $(shell command -v $(RT) 2>/dev/null),,$(error $(RT) is not on the path: README explains it under "Requirements"))
@@ -52,14 +52,16 @@ help:
 	@echo 'make prove            proves every crate, and leaves the proved program in bin/mqtt'
 	@echo 'make lib              builds the library for C in lib/'
 	@echo 'make lib-test         tests the library and its examples'
-	@echo 'make install          installs the proved program below PREFIX; with UNPROVED=1 any bin/mqtt'
+	@echo 'make install          installs the proved program below PREFIX, and the library if it is built;'
+	@echo '                      with UNPROVED=1 any bin/mqtt'
 	@echo 'make install-lib      installs the library for C and its header below PREFIX'
 	@echo 'make program          runs bin/mqtt on the rows of .ci/printed.py and the snippets of README'
 	@echo 'make interop          runs bin/mqtt against mosquitto, if that is installed'
 	@echo 'make refusals         makes each allocation of worked sections fail in turn; needs a C compiler'
 	@echo 'make try ARGS=..      runs mqtt compiled with checks of each access to memory'
-	@echo 'make bench-c          measures plain C over the streams of mq_bench'
+	@echo 'make bench-c          measures plain C over streams of packets'
 	@echo 'make bench-lib        compares libposkvari with plain C over these streams'
+	@echo 'make bench-ends       compares its client with the ends of mq_bench'
 	@echo 'make bench-loopback   measures `mqtt serve` over 127.0.0.1'
 	@echo 'make bench-brokers    compares `mqtt broker` with mosquitto'
 	@echo 'make clean            removes bin/ and lib/'
@@ -95,6 +97,7 @@ install: $(if $(filter 1,$(UNPROVED)),bin/mqtt)
 	@$(is_proved) || test '$(UNPROVED)' = 1 || { echo 'make install installs only a proved program, and there is none in bin/. Run `make prove` first, or set UNPROVED=1 to install the program without a proof.' >&2; exit 1; }
 	mkdir -p $(DESTDIR)$(PREFIX)/bin
 	install -m 755 bin/mqtt $(DESTDIR)$(PREFIX)/bin/mqtt
+	if test -f lib/libposkvari.a; then $(MAKE) install-lib; fi
 
 # Installs the library for C and its header.
 install-lib: lib
@@ -110,23 +113,35 @@ try:
 	@echo 'This proves nothing. It compiles the program with checks, in two minutes or so, and runs it.' >&2
 	cd crates/mqtt && $(RT) try -- $(ARGS)
 
-# Measures plain C that makes the tests of `view`, and plain C that also owns the parts of a packet,
-# as after `feed`: make bench-c STREAMS=small
+# Measures plain C over streams of packets, which it looks at, owns and encodes:
+# make bench-c STREAMS=small
 bench-c:
 	$(need_cc)
 	mkdir -p bin
 	$(CC) -std=c11 -O3 -o bin/same_tests bench/same_tests.c
 	bin/same_tests $(STREAMS)
 
-# The same, `posk_packet` of the library over the same streams, and messages through its client:
-# make bench-lib STREAMS=small
+# The same, and the library over the same streams: make bench-lib STREAMS=small
 bench-lib: lib
 	$(need_cc)
 	mkdir -p bin
 	$(CC) -std=c11 -O3 -DWITH_LIBRARY -Iinclude -o bin/same_tests_lib bench/same_tests.c lib/libposkvari.a
 	bin/same_tests_lib $(STREAMS)
+
+# The proved mq_bench if `rt run` has made one and the library is proved, otherwise one as written.
+mq_bench = $(or $(and $(wildcard $(lib_proved)),$(wildcard crates/mq_bench/out/mq_bench)),bin/mq_bench)
+
+bin/mq_bench: $(shell .ci/build --sources mq_bench)
+	$(need_kit)
+	@.ci/build mq_bench bin/mq_bench
+
+# Messages through a client of the library, and between the ends of mq_bench, in one run.
+bench-ends: lib $(mq_bench)
+	$(need_cc)
 	$(CC) -std=c11 -O3 -Iinclude -o bin/client_lib bench/client.c lib/libposkvari.a
-	bin/client_lib
+	@(bin/client_lib && $(mq_bench) ends) | awk '{print} /^client qos=1/ {sub("ns=", "", $$3); client = $$3} \
+	    /^ends: Q1, 16 bytes/ {ends = $$5} \
+	    END {if (ends) printf "a QoS 1 message through the client takes %.2f of that of mq_bench ends\n", client / ends}'
 
 # Loads the program's broker, and mosquitto's if that is installed, over 127.0.0.1. Prints the
 # messages that each delivers in a second, and the latency: make bench-loopback DELIVERIES=10000

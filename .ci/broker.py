@@ -5,6 +5,7 @@
 """
 
 import contextlib
+import fcntl
 import os
 import re
 import resource
@@ -13,6 +14,7 @@ import socket
 import subprocess
 import sys
 import tempfile
+import termios
 import threading
 import time
 
@@ -106,6 +108,16 @@ class Client:
 
     def send(self, data):
         self.socket.sendall(data)
+
+    def wait_until_arrived(self):
+        """Waits until the broker's system has every byte that was sent.
+
+        What the client's own system still has could arrive after the bytes of a later connection.
+        """
+        limit = time.monotonic() + LIMIT
+        while int.from_bytes(fcntl.ioctl(self.socket, termios.TIOCOUTQ, bytes(4)), sys.byteorder):
+            assert time.monotonic() < limit, "the broker takes no bytes"
+            time.sleep(0.001)
 
     def packet(self):
         """The next packet: its first byte and its body. None at the end of the stream."""
@@ -218,9 +230,11 @@ def no_descriptor(program):
 
 
 def silent_reader(program):
-    """A reader that reads nothing is ended under a flood of each QoS; others are served."""
+    """A reader that reads nothing misses messages under a flood of each QoS, others none."""
     for qos in (0, 1, 2):
-        with Broker(program, "--max-waiting", "1048576") as broker, contextlib.ExitStack() as stack:
+        port = free_port()
+        words = ["--max-waiting", "1048576", "--max-stored", "1048576", "--metrics", f"127.0.0.1:{port}"]
+        with Broker(program, *words) as broker, contextlib.ExitStack() as stack:
             slow = stack.enter_context(Client(broker, "slow"))
             slow.subscribe("flood", qos)
             other = stack.enter_context(Client(broker, "other"))
@@ -243,8 +257,13 @@ def silent_reader(program):
             publisher.ping()
             grown = broker.memory() - before
             assert grown < 16 << 20, f"QoS {qos}: {grown} bytes more"
-            slow_line = re.compile(r"slow client=slow pending=\d+")
-            assert any(slow_line.fullmatch(it) for it in broker.lines()), broker.lines()[-5:]
+            missed = {it: int(metric(port, f'mqtt_messages_missed_total{{reason="{it}"}}')) for it in ("session_full", "output_full")}
+            reason = "session_full" if qos else "output_full"
+            assert missed.pop(reason) > 1_000 and set(missed.values()) == {0}, (qos, missed)
+            # It gets what it did not miss, and is served again.
+            slow.send(PING)
+            while slow.packet()[0] != 0xD0:
+                pass
 
 
 def leaving(program):
@@ -271,6 +290,7 @@ def leaving(program):
                 sent = connect("leaver", will=("will", "gone")) + publish("message", payload)
                 client.send(sent + (nth % 30) * publish("more", 20_000 * b"m") + DISCONNECT)
                 client.expect(0x20)
+                client.wait_until_arrived()
         with Client(broker, "leaver") as client:
             client.ping()
         with Client(broker, "last") as last:
@@ -387,6 +407,54 @@ def full_session(program):
             back.ping()
 
 
+def full_bytes(program):
+    """A session whose bytes are full misses messages, or closes the publisher."""
+    for words, taken in ((["--when-full", "drop"], 4), (["--when-full", "close"], 2)):
+        with Broker(program, "--max-stored", "3000", *words) as broker, contextlib.ExitStack() as stack:
+            away = stack.enter_context(Client(broker, "away", clean=False))
+            away.subscribe("t", 1)
+            away.send(DISCONNECT)
+            assert away.is_closed()
+            publisher = stack.enter_context(Client(broker, "p"))
+            # Topic and payload have 1,001 bytes each, and then 998.
+            for nth, size in enumerate((1_000, 1_000, 1_000, 997), 1):
+                publisher.send(publish("t", size * (b"%d" % nth), 1, nth))
+            found = [publisher.packet() for _ in range(taken)]
+            assert found == [(0x40, nth.to_bytes(2, "big")) for nth in range(1, taken + 1)], found
+            if taken == 2:
+                assert publisher.is_closed()
+            else:
+                publisher.ping()
+                await_missed(broker, "away", 1)
+            back = stack.enter_context(Client(broker, "away", clean=False))
+            kept = [b"1", b"2", b"4"] if taken == 4 else [b"1", b"2"]
+            assert [back.expect(0x30)[-1:] for _ in kept] == kept
+            back.ping()
+
+
+def expiring(program):
+    """The session of an absent client expires, and that of a connected one does not."""
+    with Broker(program, "--session-expiry", "1") as broker, contextlib.ExitStack() as stack:
+        here = stack.enter_context(Client(broker, "here", clean=False))
+        for name in ("away", "back"):
+            with Client(broker, name, clean=False) as client:
+                client.subscribe("t", 1)
+                client.send(DISCONNECT)
+                assert client.is_closed()
+        time.sleep(0.4)
+        back = stack.enter_context(Client(broker))
+        back.send(connect("back", clean=False))
+        assert back.expect(0x20) == b"\1\0"
+        time.sleep(2)
+        ended = [it for it in broker.lines() if it.startswith("session-ended")]
+        assert len(ended) == 1 and re.fullmatch(r"session-ended client=#\d+", ended[0]), ended
+        away = stack.enter_context(Client(broker))
+        away.send(connect("away", clean=False))
+        assert away.expect(0x20) == b"\0\0"
+        here.ping()
+        back.ping()
+
+
 def endless_publisher(program):
     """Publishers that never stop do not keep others waiting."""
     with Broker(program, "--quiet") as broker, contextlib.ExitStack() as stack:
@@ -424,7 +492,7 @@ def arguments(program):
         ran = subprocess.run([program, "broker", "--listen", f"127.0.0.1:{broker.port}"], capture_output=True, timeout=LIMIT, check=False)
         assert (ran.returncode, ran.stdout) == (1, b""), ran
         assert b"address is in use" in ran.stderr, ran
-    for words in (["--listen", "localhost"], ["--capacity", "0"], ["--max-packet", "268435456"], ["--max-packet", "63"], ["--log", "/nowhere/log"], ["--connect-within", "0"], ["--connect-within", "soon"], ["--when-full", "wait"]):
+    for words in (["--listen", "localhost"], ["--capacity", "0"], ["--max-packet", "268435456"], ["--max-packet", "63"], ["--log", "/nowhere/log"], ["--connect-within", "0"], ["--connect-within", "soon"], ["--when-full", "wait"], ["--session-expiry", "0"], ["--session-expiry", "later"], ["--max-stored", "-1"]):
         ran = subprocess.run([program, "broker", *words], capture_output=True, timeout=LIMIT, check=False)
         assert (ran.returncode, ran.stdout) == (2, b""), ran
     with contextlib.suppress(OSError), socket.create_server(("::1", 0), family=socket.AF_INET6) as free:
@@ -501,6 +569,11 @@ def ask(port, request):
             response += data
 
 
+def free_port():
+    with socket.create_server(("127.0.0.1", 0)) as free:
+        return free.getsockname()[1]
+
+
 def metric(port, name):
     """The value of a metric."""
     body = ask(port, b"GET /metrics HTTP/1.1\r\nHost: x\r\n\r\n").decode()
@@ -511,8 +584,7 @@ def metric(port, name):
 
 def metrics(program):
     """The metrics and the page are served over HTTP, on the same loop."""
-    with socket.create_server(("127.0.0.1", 0)) as free:
-        port = free.getsockname()[1]
+    port = free_port()
     with Broker(program, "--quiet", "--metrics", f"127.0.0.1:{port}") as broker, Client(broker, "c") as client:
         client.subscribe("t", 0)
         for _ in range(3):
@@ -533,8 +605,7 @@ def metrics(program):
 
 def rows(program):
     """The gauges, and the page's rows: full sessions first, then those that store the most."""
-    with socket.create_server(("127.0.0.1", 0)) as free:
-        port = free.getsockname()[1]
+    port = free_port()
     words = ["--quiet", "--capacity", "4", "--metrics", f"127.0.0.1:{port}"]
     with Broker(program, *words) as broker, contextlib.ExitStack() as stack:
         for nth in range(24):
@@ -547,9 +618,10 @@ def rows(program):
             retained[0] |= 1
             publisher.send(retained)
             publisher.expect(0x40)
-        found = {name: metric(port, f"mqtt_{name}") for name in ("connections", "sessions", "retained_messages", "stored_messages")}
+        found = {name: metric(port, f"mqtt_{name}") for name in ("connections", "sessions", "subscriptions", "retained_messages", "stored_messages")}
         # The sessions 0 to 22 store 0, 1, 2, 3, 4, 4 .. messages, session 23 one, and p none.
-        assert found == {"connections": "1", "sessions": "25", "retained_messages": "5", "stored_messages": "83"}, found
+        # Sessions 0 to 5 have as many subscriptions, and the others five.
+        assert found == {"connections": "1", "sessions": "25", "subscriptions": "105", "retained_messages": "5", "stored_messages": "83"}, found
         assert metric(port, 'mqtt_messages_missed_total{reason="session_full"}') == "18"
         page = ask(port, b"GET / HTTP/1.1\r\nHost: x\r\n\r\n").decode()
         shown = re.findall(r"<tr><td>(.*)<td>(\d+)<td>(\d+)<td>(\d+)<td>(\w+)\n", page)
@@ -560,7 +632,8 @@ def rows(program):
 
 TESTS = [
     arguments, many_connections, too_many_connections, no_descriptor, silent_reader, leaving,
-    silent_connections, late_connects, missed_messages, full_session, endless_publisher, passwords, metrics, rows,
+    silent_connections, late_connects, missed_messages, full_session, full_bytes, expiring,
+    endless_publisher, passwords, metrics, rows,
 ]
 
 

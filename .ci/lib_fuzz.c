@@ -1,5 +1,6 @@
 /* Calls the functions over bytes with packets, changed packets and random bytes, each in a block of
- * its exact size, for a number of seconds: lib_fuzz SECONDS [START]. */
+ * its exact size, for a number of seconds: lib_fuzz SECONDS [START]. A client takes the same
+ * bytes. */
 #include <poskvari.h>
 #include <stdio.h>
 #include <stdlib.h>
@@ -99,9 +100,55 @@ static int look(const uint8_t *data, size_t size) {
     } else {
         CHECK(code == POSK_MORE);
     }
+    /* A lenient reader accepts the same packets and more. */
+    posk_fields g;
+    int32_t lenient = poskvari_packet(bytes, size, POSK_MAX_PACKET, true, &g, &fault);
+    CHECK(code != POSK_OK || (lenient == POSK_OK && g.kind == f.kind && g.size == f.size));
+    CHECK(code != POSK_MORE || lenient == POSK_MORE);
     posk_session_check(bytes, size);
     free(bytes);
     return code;
+}
+
+/* A client takes these bytes: its answers have at most as many bytes as came, apart from what it
+ * publishes, and sends again when it connects. */
+static void hear(const uint8_t *data, size_t size) {
+    static posk_client client = POSK_CLIENT_NONE;
+    static bool is_up;
+    static size_t credit;
+    const posk_options options = {
+        .id = {"a", 1}, .keep_alive = 2, .max_packet = 64, .capacity = 4, .window = 3};
+    uint8_t room[256];
+    if (!client.at) CHECK(posk_client_new(&client, &options) == POSK_OK);
+    if (!is_up) {
+        posk_dropped(&client);
+        CHECK(posk_connect(&client, 0, random_below(4) == 0) == POSK_OK);
+        CHECK(posk_output(&client, room, sizeof room) > 0);
+        is_up = true;
+        credit = 0;
+    }
+    bool is_accepted = random_below(4) == 0;
+    uint8_t *bytes = malloc(size + 4);
+    CHECK(bytes);
+    memcpy(bytes, is_accepted ? (const uint8_t *)"\x20\2\1\0" : data, is_accepted ? 4 : size);
+    int closed = posk_receive(&client, 0, bytes, is_accepted ? 4 : size);
+    free(bytes);
+    CHECK(closed >= 0 && closed != POSK_CLOSED_MEMORY);
+    credit += size + 4;
+    for (posk_event event = {.kind = POSK_EVENT_PONG}; event.kind != POSK_EVENT_NONE;) {
+        int code = posk_next_event(&client, &event, room, event.kind % 2 ? 0 : sizeof room);
+        if (code == POSK_ERROR_ROOM) code = posk_next_event(&client, &event, room, event.size);
+        CHECK(code == POSK_OK && event.size <= 64 && event.topic_size <= event.size);
+        if (event.kind == POSK_EVENT_CONNECTED) credit += 4 * 64;
+    }
+    if (random_below(8) == 0) {
+        int id = posk_publish(&client, "a/b", 3, data, size, (uint8_t)random_below(3), false);
+        CHECK(id >= 0 || (id != POSK_ERROR_MEMORY && id != POSK_ERROR_ARGUMENT));
+        credit += 16 + size;
+    }
+    for (size_t out; (out = posk_output(&client, room, sizeof room)) > 0; credit -= out)
+        CHECK(out <= credit);
+    if (closed > 0) is_up = false;
 }
 
 /* A second opinion of a match (4.7), by recursion over levels. */
@@ -204,6 +251,7 @@ int main(int count, char **words) {
             data[random_below((uint32_t)size)] = (uint8_t)random_below(256);
         if (random_below(4) == 0) size = random_below((uint32_t)size + 1);
         found += look(data, size) == POSK_OK;
+        hear(data, size);
         encode_random(data, size);
         match();
         rounds++;

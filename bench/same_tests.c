@@ -1,25 +1,24 @@
 /*
- * Control packets of MQTT 3.1.1 in plain C, to compare with `mq_bench`. Nothing of it is proved.
+ * Control packets of MQTT 3.1.1 in plain C, next to the library libposkvari. Nothing of the plain C
+ * is proved.
  *
- * Each packet of the streams of `mq_bench` is found and tested as `view` tests it, without a copy.
- * Tested are the type and its flags, the remaining length, UTF-8 and U+0000 of every text,
- * wildcards of names and filters, identifiers, the flags of CONNECT, codes, lists, and that a
- * packet has no bytes left.
+ * Looked at: each packet is found and tested without a copy. Tested are the type and its flags,
+ * the remaining length, UTF-8 and U+0000 of every text, wildcards of names and filters,
+ * identifiers, the flags of CONNECT, codes, lists, and that a packet has no bytes left. The library
+ * does the same in `posk_packet`.
  *
- * Then the same packets are read again and owned, to compare with `feed`. After the same tests each
- * text, payload, binary and list is copied to memory of its own. The packets of 65,536 bytes are
- * kept in a list and then freed, as `mq_bench` does after each piece.
+ * Owned: after the same tests each text, payload, binary and list is copied to memory of its own.
+ * The packets of 65,536 bytes are kept in a list and then freed. A client of the library does the
+ * same for the messages of a piece, hands each out, and queues its PUBACK.
  *
- *     make bench-c
+ * Encoded: the same tests of the fields, and then the bytes, by plain C and by `posk_encode_..`.
  *
- * With the library libposkvari, which WITH_LIBRARY links, each packet is also found by
- * `posk_packet`:
+ *     make bench-c      plain C alone
+ *     make bench-lib    both, with WITH_LIBRARY
  *
- *     make bench-lib
- *
- * A scan (the sum of all bytes) is timed in the same run, as in `mq_bench`, so that the ratios of
- * two programs can be compared.
+ * Times are of the processor. A scan (the sum of all bytes) is timed in the same run.
  */
+#define _POSIX_C_SOURCE 200809L
 #include <stdbool.h>
 #include <stdint.h>
 #include <stdio.h>
@@ -30,7 +29,9 @@
 #include <poskvari.h>
 #endif
 
+#ifndef STREAM
 #define STREAM 64000000u
+#endif
 #define ROUNDS 5
 #define LIMIT 268435455u
 
@@ -479,6 +480,91 @@ static __attribute__((noinline)) uint64_t read_all(const uint8_t *bytes, size_t 
     return count == 0 ? packets : 0;
 }
 
+/* ---- encoding */
+
+/* A multiple of seven, so that whole turns of `small` are encoded. */
+#define ENCODED 1022
+
+/* Writes the first byte and the remaining length if the packet fits; returns the bytes of both. */
+static size_t encode_header(uint8_t first, size_t size, uint8_t *out, size_t room)
+{
+    size_t at = 1, rest = size;
+    uint8_t length[4];
+    if (size > LIMIT)
+        return 0;
+    do {
+        length[at - 1] = (uint8_t)(rest & 127);
+        rest >>= 7;
+        if (rest > 0)
+            length[at - 1] |= 128;
+        at++;
+    } while (rest > 0);
+    if (room < at + size)
+        return 0;
+    out[0] = first;
+    memcpy(out + 1, length, at - 1);
+    return at;
+}
+
+static uint8_t *encode_number(uint8_t *out, uint16_t number)
+{
+    out[0] = (uint8_t)(number >> 8);
+    out[1] = (uint8_t)number;
+    return out + 2;
+}
+
+/* A valid PUBLISH or packet of two or four bytes; 0 if it is none or does not fit. */
+static size_t encode(const struct packet *packet, uint8_t *out, size_t room)
+{
+    bool is_publish = packet->first >> 4 == 3;
+    bool has_id = is_publish ? (packet->first & 6) != 0 : packet->first < 0xc0;
+    size_t size = (has_id ? 2 : 0), start;
+    uint8_t *at;
+    if (has_id && packet->id == 0)
+        return 0;
+    if (is_publish) {
+        if ((packet->first & 6) == 6 || (packet->first & 14) == 8)
+            return 0;
+        if (packet->name.size == 0 || packet->name.size > 65535 || !is_text(packet->name, true))
+            return 0;
+        size += 2 + packet->name.size + packet->rest.size;
+    }
+    start = encode_header(packet->first, size, out, room);
+    if (start == 0)
+        return 0;
+    at = out + start;
+    if (is_publish) {
+        at = encode_number(at, (uint16_t)packet->name.size);
+        memcpy(at, packet->name.at, packet->name.size);
+        at += packet->name.size;
+    }
+    if (has_id)
+        at = encode_number(at, packet->id);
+    if (is_publish)
+        memcpy(at, packet->rest.at, packet->rest.size);
+    return start + size;
+}
+
+/* The first packets of a stream, which are encoded again. */
+static struct packet encoded[ENCODED];
+static uint8_t encoded_bytes[70000];
+
+/* Encodes the first ENCODED packets over and over, as many times as the stream has packets. */
+static __attribute__((noinline)) uint64_t encode_all(const uint8_t *bytes, size_t count, uint64_t *sum)
+{
+    uint64_t packets = 0;
+    for (size_t i = 0; count > 0; i = (i + 1) % ENCODED) {
+        size_t size = encode(&encoded[i], encoded_bytes, sizeof encoded_bytes);
+        if (size == 0 || size > count)
+            return 0;
+        *sum += encoded_bytes[0];
+        count -= size;
+        packets++;
+    }
+    (void)bytes;
+    return packets;
+}
+
 #ifdef WITH_LIBRARY
 /* The same, where the library finds each packet. */
 static __attribute__((noinline)) uint64_t read_by_library(const uint8_t *bytes, size_t count, uint64_t *sum)
@@ -494,6 +580,75 @@ static __attribute__((noinline)) uint64_t read_by_library(const uint8_t *bytes, 
     }
     return count == 0 ? packets : 0;
 }
+
+static ptrdiff_t encode_one(const struct packet *packet)
+{
+    uint8_t first = packet->first, *out = encoded_bytes;
+    size_t room = sizeof encoded_bytes;
+    if (first >> 4 == 3)
+        return posk_encode_publish(packet->name.at, packet->name.size, packet->rest.at,
+                                   packet->rest.size, first >> 1 & 3, first & 1, (first & 8) != 0,
+                                   packet->id, out, room);
+    if (first < 0xc0)
+        return posk_encode_acknowledgement(first >> 4, packet->id, out, room);
+    return posk_encode_bare(first >> 4, out, room);
+}
+
+/* The same as encode_all, where the library encodes each packet. */
+static __attribute__((noinline)) uint64_t encode_by_library(const uint8_t *bytes, size_t count, uint64_t *sum)
+{
+    uint64_t packets = 0;
+    for (size_t i = 0; count > 0; i = (i + 1) % ENCODED) {
+        ptrdiff_t size = encode_one(&encoded[i]);
+        if (size <= 0 || (size_t)size > count)
+            return 0;
+        *sum += encoded_bytes[0];
+        count -= (size_t)size;
+        packets++;
+    }
+    (void)bytes;
+    return packets;
+}
+
+static uint8_t client_room[200000];
+
+/* Takes the messages of a piece and the pending output. */
+static uint64_t take_messages(posk_client *client, uint64_t *sum)
+{
+    uint64_t messages = 0;
+    posk_event event;
+    while (posk_next_event(client, &event, client_room, sizeof client_room) == POSK_OK) {
+        if (event.kind == POSK_EVENT_NONE)
+            break;
+        messages += event.kind == POSK_EVENT_MESSAGE;
+        *sum += event.size;
+    }
+    while (posk_output(client, client_room, sizeof client_room) > 0)
+        continue;
+    return messages;
+}
+
+/* The messages of a stream, in pieces, to a client. */
+static __attribute__((noinline)) uint64_t feed_to_client(const uint8_t *bytes, size_t count, uint64_t *sum)
+{
+    posk_client client = POSK_CLIENT_NONE;
+    posk_options options = {.id = {"c", 1}};
+    uint64_t messages = 0;
+    if (posk_client_new(&client, &options) || posk_connect(&client, 0, true))
+        return 0;
+    take_messages(&client, sum);
+    if (posk_receive(&client, 0, "\x20\x02\0", 4) == POSK_OK) {
+        take_messages(&client, sum);
+        for (size_t at = 0; at < count; at += PIECE) {
+            size_t size = count - at < PIECE ? count - at : PIECE;
+            if (posk_receive(&client, 0, bytes + at, size))
+                break;
+            messages += take_messages(&client, sum);
+        }
+    }
+    posk_client_free(&client);
+    return messages;
+}
 #endif
 
 static __attribute__((noinline)) uint64_t scan(const uint8_t *bytes, size_t count)
@@ -504,7 +659,7 @@ static __attribute__((noinline)) uint64_t scan(const uint8_t *bytes, size_t coun
     return sum;
 }
 
-/* ---- the streams, as `mq_bench` makes them up */
+/* ---- the streams */
 
 struct buffer {
     uint8_t *bytes;
@@ -647,7 +802,7 @@ static bool put_turn(struct buffer *out, const char *name)
 static double now(void)
 {
     struct timespec time;
-    timespec_get(&time, TIME_UTC);
+    clock_gettime(CLOCK_PROCESS_CPUTIME_ID, &time);
     return (double)time.tv_sec + (double)time.tv_nsec * 1e-9;
 }
 
@@ -676,9 +831,42 @@ static double time_of(work work, const struct buffer *stream, uint64_t packets, 
 
 static void print_row(const char *name, const char *what, const struct buffer *stream, uint64_t packets, double scan, double time)
 {
-    printf("%-14s %-9s %9.2f ns a packet %8.0f MB/s %12.0f packets/s   %.3f of its scan\n", name, what,
+    printf("%-14s %-11s %9.2f ns a packet %8.0f MB/s %12.0f packets/s   %.3f of its scan\n", name, what,
            time * 1e9 / (double)packets, (double)stream->count / time / 1e6, (double)packets / time, scan / time);
 }
+
+/* Keeps the first packets of a stream to encode them again. */
+static bool keep_first(const struct buffer *stream)
+{
+    size_t at = 0;
+    for (size_t i = 0; i < ENCODED; i++) {
+        encoded[i] = packet_at(stream->bytes + at, stream->count - at);
+        at += encoded[i].size;
+        if (encoded[i].size == 0 || at >= stream->count)
+            at = 0;
+    }
+    return encoded[ENCODED - 1].size > 0;
+}
+
+#ifdef WITH_LIBRARY
+static void compare_one(const char *name, const char *what, work work, const struct buffer *stream, uint64_t packets, double scan, double plain)
+{
+    uint64_t sum = 0;
+    double time = plain < 0 ? -1 : time_of(work, stream, packets, &sum);
+    if (time < 0)
+        return;
+    print_row(name, what, stream, packets, scan, time);
+    printf("%-14s the library takes %.2f of plain C (%s)\n", name, time / plain, what);
+}
+
+static void compare_with_library(const char *name, const struct buffer *stream, uint64_t packets, double scan, double looked, double owned, double written)
+{
+    compare_one(name, "posk_packet", read_by_library, stream, packets, scan, looked);
+    if (strncmp(name, "publish", 7) == 0)
+        compare_one(name, "client", feed_to_client, stream, packets, scan, owned);
+    compare_one(name, "posk_encode", encode_by_library, stream, packets, scan, written);
+}
+#endif
 
 static bool measure(struct buffer *stream, const char *name)
 {
@@ -709,16 +897,13 @@ static bool measure(struct buffer *stream, const char *name)
         return false;
     }
     print_row(name, "looked at", stream, packets, scans[ROUNDS / 2], looked);
-#ifdef WITH_LIBRARY
-    double found = time_of(read_by_library, stream, packets, &sum);
-    if (found < 0) {
-        fprintf(stderr, "same_tests: the library does not read %s to its end\n", name);
-        return false;
-    }
-    print_row(name, "library", stream, packets, scans[ROUNDS / 2], found);
-    printf("%-14s the library takes %.2f of plain C\n", name, found / looked);
-#endif
     print_row(name, "owned", stream, packets, scans[ROUNDS / 2], owned);
+    double written = strcmp(name, "mixed") != 0 && keep_first(stream) ? time_of(encode_all, stream, packets, &sum) : -1;
+    if (written >= 0)
+        print_row(name, "encoded", stream, packets, scans[ROUNDS / 2], written);
+#ifdef WITH_LIBRARY
+    compare_with_library(name, stream, packets, scans[ROUNDS / 2], looked, owned, written);
+#endif
     printf("%-14s the sum is %llu\n", name, (unsigned long long)sum);
     return true;
 }

@@ -102,6 +102,9 @@ fn new_hub(alloc: Global, limits: Limits) -> Hub {
             hashed_users: None,
             when_full: WhenFull::ClosePublisher,
             connect_within: None,
+            session_expiry: None,
+            most_stored: None,
+            most_waiting: None,
         },
     )
 }

@@ -1,4 +1,4 @@
-//! Benchmarks of a broker in memory, which consumes and produces the bytes of its clients.
+//! A broker in memory, which consumes and produces the bytes of its clients, timed and printed.
 
 use crate::clients::{self, BATCH};
 use anyhow::{Context, ensure};
@@ -9,13 +9,7 @@ use std::alloc::Global;
 use std::rt::Clock;
 use std::time::Instant;
 
-/// The word for it.
-pub(crate) const NAME: &str = "hub";
-
-pub(crate) const EXPLANATION: &str =
-    "a broker in memory: publishers and subscribers, 10 to 100,000 sessions beside";
-
-/// The publisher, and the number of subscribers to all its messages.
+/// The number of publishers, and of subscribers to all their messages.
 #[derive(Clone, Copy, Debug)]
 struct Flow {
     publishers: u16,
@@ -38,11 +32,11 @@ const FLOWS: [Flow; 3] = [
     },
 ];
 
-/// How many bytes a message has.
-const PAYLOADS: [usize; 2] = [16, 1_024];
+/// The number of bytes of a message.
+const PAYLOAD: usize = 16;
 
-/// How many other sessions there are, with ten subscriptions each.
-const BESIDE: [u32; 3] = [10, 1_000, 100_000];
+/// The number of other sessions, with ten subscriptions each.
+const BESIDE: [u32; 2] = [10, 100_000];
 
 /// How often each publisher sends a batch of messages.
 const TURNS: u16 = 400;
@@ -80,27 +74,20 @@ pub(crate) fn broker(alloc: Global) -> anyhow::Result<Hub> {
         hashed_users: None,
         when_full: WhenFull::ClosePublisher,
         connect_within: None,
+        session_expiry: None,
+        most_stored: None,
+        most_waiting: None,
     };
     Ok(Hub::new(alloc, config))
 }
 
-/// An event, after which its connection is open.
-fn step(hub: &mut Hub, event: &HubEvent) -> anyhow::Result<()> {
+/// Makes an event happen, after which its connection must be open.
+pub(crate) fn step(hub: &mut Hub, event: &HubEvent) -> anyhow::Result<()> {
     ensure!(hub.step(event)?.alive, "a connection was closed");
     Ok(())
 }
 
-/// A connection is opened.
-pub(crate) fn open(hub: &mut Hub, conn: Conn) -> anyhow::Result<()> {
-    step(hub, &HubEvent::Opened(conn))
-}
-
-/// Bytes come on a connection, which is open then.
-pub(crate) fn hear(hub: &mut Hub, event: HubEvent) -> anyhow::Result<()> {
-    step(hub, &event)
-}
-
-/// A connection is over.
+/// Ends a connection.
 pub(crate) fn close(hub: &mut Hub, conn: Conn) -> anyhow::Result<()> {
     hub.step(&HubEvent::Ended(conn))?;
     Ok(())
@@ -114,8 +101,8 @@ pub(crate) fn take(hub: &mut Hub, conn: Conn) -> anyhow::Result<usize> {
 
 fn add_others(alloc: Global, hub: &mut Hub, count: u32) -> anyhow::Result<()> {
     for client in 0..count {
-        open(hub, OTHERS)?;
-        hear(hub, clients::subscribes_to_ten(alloc, OTHERS, client)?)?;
+        step(hub, &HubEvent::Opened(OTHERS))?;
+        step(hub, &clients::subscribes_to_ten(alloc, OTHERS, client)?)?;
         close(hub, OTHERS)?;
     }
     Ok(())
@@ -126,8 +113,8 @@ fn add_publishers(alloc: Global, hub: &mut Hub, flow: Flow) -> anyhow::Result<()
     for number in 0..flow.publishers {
         let conn = publisher(number);
         let name = format!(in alloc; "publisher-{number}")?;
-        open(hub, conn)?;
-        hear(hub, clients::comes(alloc, conn, name.as_str(), true)?)?;
+        step(hub, &HubEvent::Opened(conn))?;
+        step(hub, &clients::comes(alloc, conn, name.as_str(), true)?)?;
     }
     Ok(())
 }
@@ -137,9 +124,9 @@ fn add_subscribers(alloc: Global, hub: &mut Hub, flow: Flow, qos: Qos) -> anyhow
     for number in 0..flow.subscribers {
         let conn = subscriber(number);
         let name = format!(in alloc; "subscriber-{number}")?;
-        open(hub, conn)?;
+        step(hub, &HubEvent::Opened(conn))?;
         let event = clients::subscribes(alloc, conn, name.as_str(), "greenhouse/#", qos)?;
-        hear(hub, event)?;
+        step(hub, &event)?;
         take(hub, conn)?;
     }
     Ok(())
@@ -161,7 +148,6 @@ fn end(hub: &mut Hub, flow: Flow) -> anyhow::Result<()> {
 struct Work {
     flow: Flow,
     qos: Qos,
-    payload: usize,
 }
 
 impl Work {
@@ -173,7 +159,7 @@ impl Work {
     fn published(self, alloc: Global) -> anyhow::Result<Vec<HubEvent>> {
         let mut published = Vec::new(alloc);
         for number in 0..self.flow.publishers {
-            let event = clients::publishes(alloc, publisher(number), self.qos, self.payload)?;
+            let event = clients::publishes(alloc, publisher(number), self.qos, PAYLOAD)?;
             published.push(event)?;
         }
         Ok(published)
@@ -258,23 +244,22 @@ fn measure_work(rt: &impl Clock, alloc: Global, hub: &mut Hub, work: Work) -> an
     Ok(messages.saturating_mul(1_000_000_000) / times[ROUNDS / 2].max(1))
 }
 
-/// Measures each flow with messages of this quality of service and size.
+/// Measures each flow with messages of this quality of service.
 fn measure_flows(
     rt: &(impl Print + Clock),
     alloc: Global,
     hub: &mut Hub,
     beside: u32,
     qos: Qos,
-    payload: usize,
 ) -> anyhow::Result<()> {
     for flow in FLOWS {
-        let rate = measure_work(rt, alloc, hub, Work { flow, qos, payload })?;
+        let rate = measure_work(rt, alloc, hub, Work { flow, qos })?;
         let Flow {
             publishers,
             subscribers,
         } = flow;
         println!(rt;
-            "{NAME}: {beside} sessions beside, {publishers} to {subscribers}, {qos:?}, {payload} bytes: {rate} messages/s"
+            "hub: {beside} other sessions, {publishers} to {subscribers}, {qos:?}: {rate} messages/s"
         )?;
     }
     Ok(())
@@ -288,19 +273,18 @@ fn measure_beside(
 ) -> anyhow::Result<()> {
     add_others(alloc, hub, beside)?;
     for qos in [Qos::Q0, Qos::Q1, Qos::Q2] {
-        for payload in PAYLOADS {
-            measure_flows(rt, alloc, hub, beside, qos, payload)?;
-        }
+        measure_flows(rt, alloc, hub, beside, qos)?;
     }
     Ok(())
 }
 
+// Apart, so that only this function drops a broker.
 fn measure_anew(rt: &(impl Print + Clock), alloc: Global, beside: u32) -> anyhow::Result<()> {
     let mut hub = broker(alloc)?;
     measure_beside(rt, alloc, &mut hub, beside)
 }
 
-/// Measures a broker, and prints how many messages a second come to it.
+/// Measures a broker, and prints the number of messages that it takes in a second.
 pub(crate) fn measure(rt: &(impl Print + Clock), alloc: Global) -> anyhow::Result<()> {
     for beside in BESIDE {
         measure_anew(rt, alloc, beside)?;

@@ -1,6 +1,5 @@
 //! What clients of a broker send, made before the time is taken.
 
-use crate::sample::{identifier, made_up_bytes};
 use anyhow::{Context, ensure};
 use bytes::Bytes;
 use mq_hub::{Conn, HubEvent};
@@ -14,6 +13,19 @@ use std::alloc::Global;
 
 /// How many messages a publisher sends at once.
 pub(crate) const BATCH: u16 = 20;
+
+/// Bytes of a payload of this size.
+pub(crate) fn made_up_bytes(alloc: Global, size: usize) -> anyhow::Result<Bytes> {
+    let mut bytes = Vec::with_capacity(alloc, size)?;
+    for place in 0..size {
+        bytes.push((place % 251) as u8)?;
+    }
+    Ok(Bytes::from_vec(bytes)?)
+}
+
+fn identifier(number: u16) -> anyhow::Result<PacketId> {
+    PacketId::new(number).context("an identifier of 0")
+}
 
 fn put(bytes: &mut Vec<u8>, packet: Packet) -> anyhow::Result<()> {
     encode_into(&packet, bytes)?;

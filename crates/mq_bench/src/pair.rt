@@ -36,16 +36,6 @@ fn server_within(alloc: Global, limits: Limits) -> ServerEnd {
     ServerEnd::new(alloc, config)
 }
 
-/// A client end in its initial state.
-pub(crate) fn idle_client(alloc: Global) -> anyhow::Result<ClientEnd> {
-    client_within(alloc, limits()?)
-}
-
-/// A server end in its initial state.
-pub(crate) fn idle_server(alloc: Global) -> anyhow::Result<ServerEnd> {
-    Ok(server_within(alloc, limits()?))
-}
-
 fn given<T: Drop>(value: T, done: anyhow::Result<()>) -> anyhow::Result<T> {
     done?;
     Ok(value)
@@ -59,8 +49,8 @@ fn handed(happenings: &[Happening]) -> usize {
 /// A client end and a server end.
 #[derive(Drop)]
 pub(crate) struct Pair {
-    pub(crate) client: ClientEnd,
-    pub(crate) server: ServerEnd,
+    client: ClientEnd,
+    server: ServerEnd,
 }
 
 impl Pair {
@@ -134,14 +124,6 @@ impl Pair {
             self.to_client()?;
         }
         ensure!(count == 1, "a message is not handed on once");
-        Ok(())
-    }
-
-    /// The client publishes a message, whose bytes are written and come nowhere.
-    pub(crate) fn publish(&mut self, message: Message) -> anyhow::Result<()> {
-        self.client.publish(message)?;
-        let written = self.client.output().len();
-        self.client.take_output(written);
         Ok(())
     }
 }

@@ -9,15 +9,21 @@
 mod acceptor;
 mod counted;
 mod end;
+mod kept;
 mod log;
 mod missed;
+mod open_error;
 mod options;
 mod peers;
+mod recovered;
 mod rows;
 mod server;
+mod site;
 mod status_port;
 
 pub use crate::end::BrokerEnd;
 pub use crate::log::{Log, LogLevel};
+pub use crate::open_error::OpenError;
 pub use crate::options::BrokerOptions;
+pub use crate::recovered::RecoveredBroker;
 pub use crate::server::run_broker;

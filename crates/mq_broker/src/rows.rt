@@ -3,8 +3,8 @@
 use crate::counted::Counted;
 use crate::peers::Peers;
 use mio::net::TcpStream;
-use mq_hub::{Hub, SessionCounts};
-use mq_loop::{EventLoop, NonBlocking};
+use mq_hub::SessionCounts;
+use mq_loop::{Broker, EventLoop, NonBlocking};
 use mq_status::{MAX_ROWS, RowState, SessionRow};
 use mq_topic::ClientKey;
 use std::alloc::{AllocError, Global};
@@ -74,9 +74,9 @@ fn add(list: &mut Vec<Ranked>, session: Ranked) -> Result<(), AllocError> {
 }
 
 // The bytes pending for each connected client.
-fn pending_bytes(
+fn pending_bytes<B: Broker + Drop>(
     alloc: Global,
-    connections: &EventLoop<Hub, NonBlocking<TcpStream>, Counted>,
+    connections: &EventLoop<B, NonBlocking<TcpStream>, Counted>,
     peers: &Peers,
 ) -> Result<BTreeMap<ClientKey, usize>, AllocError> {
     let mut pending = BTreeMap::new(alloc);
@@ -89,9 +89,9 @@ fn pending_bytes(
 }
 
 // The sessions that the page shows, in order.
-fn first_sessions(
+fn first_sessions<B: Broker + Drop>(
     alloc: Global,
-    connections: &EventLoop<Hub, NonBlocking<TcpStream>, Counted>,
+    connections: &EventLoop<B, NonBlocking<TcpStream>, Counted>,
     peers: &Peers,
 ) -> Result<Vec<Ranked>, AllocError> {
     let pending = pending_bytes(alloc, connections, peers)?;
@@ -106,9 +106,9 @@ fn first_sessions(
 }
 
 /// The rows of the page: the sessions that are full, slow or store the most messages.
-pub(crate) fn rows_of(
+pub(crate) fn rows_of<B: Broker + Drop>(
     alloc: Global,
-    connections: &EventLoop<Hub, NonBlocking<TcpStream>, Counted>,
+    connections: &EventLoop<B, NonBlocking<TcpStream>, Counted>,
     peers: &Peers,
 ) -> Result<Vec<SessionRow>, AllocError> {
     let sessions = first_sessions(alloc, connections, peers)?;

@@ -3,6 +3,7 @@
 ghost use Rattle.std.specs.Prelude.{◌≡◌, ◌≢◌, ◌↔◌, IfErr};
 ghost use Rattle.mq_broker.specs.End.{IsPacketLimit};
 ghost use Rattle.mq_broker.specs.declared.end.BrokerEnd.TheVariants.{PacketLimit};
+ghost use Rattle.mq_loop.specs.Rounds.{IsReached};
 
 mod accepting;
 mod answering;
@@ -14,21 +15,18 @@ use crate::end::BrokerEnd;
 use crate::log::Log;
 use crate::options::BrokerOptions;
 use crate::peers::Peers;
+use crate::site::Site;
 use crate::status_port::StatusPort;
 use mio::net::{TcpListener, TcpStream};
 use mio::{Events, Poll, Token};
-use mq_decode::Limits;
 use mq_hub::Hub;
-use mq_loop::{EventLoop, LoopLimits, NonBlocking};
+use mq_loop::{Broker, EventLoop, NonBlocking};
 use mq_stream::{Clock, Elapsed};
 use std::alloc::Global;
 use std::io::Write;
 use std::net::{Net, SocketAddr};
 use std::time::{Duration, Instant};
 use std::{io, time};
-
-/// The number of bytes that a connection may send in one round, if others are ready.
-const SHARE: usize = 262_144;
 
 /// The size of the buffer of a read, in bytes.
 const CHUNK: usize = 65_536;
@@ -44,10 +42,12 @@ const LISTENER: Token = Token(usize::MAX);
 
 // A broker that listens.
 #[derive(Drop)]
-struct Server<W: Write> {
+struct Server<B: Broker + Drop, W: Write> {
     poll: Poll,
     listener: TcpListener,
-    connections: EventLoop<Hub, NonBlocking<TcpStream>, Counted>,
+    connections: EventLoop<B, NonBlocking<TcpStream>, Counted>,
+    // The time of the broker at the beginning, in milliseconds.
+    began_at: u64,
     status: Option<StatusPort>,
     peers: Peers,
     log: Log<W>,
@@ -58,12 +58,15 @@ struct Server<W: Write> {
     failed_at: Option<u64>,
     // The time of the last lines about missed messages, in milliseconds.
     missed_at: Option<u64>,
+    // The time at which the broker was last asked for its deadline, in milliseconds.
+    asked_at: Option<u64>,
 }
 
 /// Runs a broker until its listener fails. Writes `listening ADDR:PORT` to `output`.
 ///
 /// Returns the reason for the end. Allocates, also while it runs; a connection for which an
 /// allocation fails is closed.
+#[tactic(auto, using(crate::proofs::Begins::hub_reached))]
 pub fn run_broker<R: Net + time::Clock, W: Write, L: Write + Drop>(
     rt: &R,
     alloc: Global,
@@ -76,24 +79,28 @@ pub fn run_broker<R: Net + time::Clock, W: Write, L: Write + Drop>(
     let Some(packets) = options.packets() else {
         return BrokerEnd::PacketLimit;
     };
-    match run_within(rt, alloc, options, packets, output, log) {
+    let site = Site::new(&options, packets);
+    let hub = Hub::new(alloc, options.into_config(packets));
+    match run_at(rt, alloc, site, hub, 0, output, log) {
         Ok(()) => BrokerEnd::Listener,
         Err(end) => end,
     }
 }
 
-// Runs a broker whose packets have these limits.
-fn run_within<R: Net + time::Clock, W: Write, L: Write + Drop>(
+/// Runs a broker whose clock continues from a time in milliseconds. It must know no connection.
+pub(crate) fn run_at<R: Net + time::Clock, B: Broker + Drop, W: Write, L: Write + Drop>(
     rt: &R,
     alloc: Global,
-    options: BrokerOptions,
-    packets: Limits,
+    site: Site,
+    broker: B,
+    began_at: u64,
     output: &mut W,
     log: Log<L>,
 ) -> Result<(), BrokerEnd>
+    requires { IsReached (B.state broker) }
     ensures { IfErr result (λ end. end ≢ PacketLimit) }
 {
-    let mut server = Server::open(rt, alloc, options, packets, log)?;
+    let mut server = Server::open(rt, alloc, site, broker, began_at, log)?;
     server.serve(rt, alloc, output)
 }
 
@@ -112,41 +119,38 @@ fn write_address<W: Write>(output: &mut W, address: SocketAddr) -> io::Result<()
     output.flush()
 }
 
-impl<L: Write + Drop> Server<L> {
+impl<B: Broker + Drop, L: Write + Drop> Server<B, L> {
     // Opens the listeners.
     fn open<R: Net>(
         rt: &R,
         alloc: Global,
-        options: BrokerOptions,
-        packets: Limits,
+        site: Site,
+        broker: B,
+        began_at: u64,
         log: Log<L>,
-    ) -> Result<Server<L>, BrokerEnd>
+    ) -> Result<Server<B, L>, BrokerEnd>
+        requires { IsReached (B.state broker) }
         ensures { IfErr result (λ end. end ≢ PacketLimit) }
     {
-        let limits = LoopLimits {
-            share: SHARE,
-            most_owed: options.max_waiting,
-            packets,
-        };
-        let most = options.max_connections;
         let poll = new_poll(rt)?;
-        let listener = listen_at(rt, &poll, options.listen, LISTENER)?;
-        let status = match options.metrics {
+        let listener = listen_at(rt, &poll, site.listen, LISTENER)?;
+        let status = match site.metrics {
             Some(address) => Some(StatusPort::open(rt, alloc, &poll, address)?),
             None => None,
         };
-        let config = options.into_config(packets);
         Ok(Server {
             poll,
             listener,
-            connections: EventLoop::new(alloc, config, limits, Counted::new(alloc)),
+            connections: EventLoop::over(alloc, broker, site.limits, Counted::new(alloc)),
+            began_at,
             status,
             peers: Peers::new(alloc),
             log,
-            most,
+            most: site.max_connections,
             may_accept: true,
             failed_at: None,
             missed_at: None,
+            asked_at: None,
         })
     }
 
@@ -185,10 +189,10 @@ impl<L: Write + Drop> Server<L> {
         let most = self.most.saturating_add(1).min(MOST_EVENTS);
         let mut events = Events::with_capacity(alloc, most)?;
         let mut buffer = vec![in alloc; 0u8; CHUNK]?;
-        let mut now = 0;
+        let mut now = self.began_at;
         for _ in 0..u64::MAX {
             self.wait(&mut events, now)?;
-            now = clock.now();
+            now = self.began_at.saturating_add(clock.now());
             let began = Instant::now(rt);
             let settled = self.connections.round(now, buffer.as_mut_slice());
             self.count_round(rt, began);
@@ -235,13 +239,24 @@ impl<L: Write + Drop> Server<L> {
         self.connections.observer_mut().metrics.count_round(time);
     }
 
+    // The time until the broker needs a tick. To answer, it may look at every session, so it is
+    // asked at most once between two ticks.
+    fn rest(&mut self, now: u64) -> Option<u64> {
+        if let Some(asked_at) = self.asked_at {
+            if now.saturating_sub(asked_at) < RETRY {
+                return Some(RETRY);
+            }
+        }
+        self.asked_at = Some(now);
+        rest_until(self.connections.hub().next_deadline(), now)
+    }
+
     // The maximum time to wait. `None` if there is no limit.
-    fn limit(&self, now: u64) -> Option<Duration> {
+    fn limit(&mut self, now: u64) -> Option<Duration> {
         if self.may_accept || self.connections.is_due() {
             return Some(Duration::from_millis(0));
         }
-        let deadline = self.connections.hub().next_deadline();
-        let mut limit = rest_until(deadline, now).unwrap_or(u64::MAX);
+        let mut limit = self.rest(now).unwrap_or(u64::MAX);
         if self.failed_at.is_some() {
             limit = RETRY;
         }

@@ -3,6 +3,7 @@ mod Filling
 mod Texts
 mod Encoded
 mod Located
+mod Finding
 mod ItemLists
 mod ItemParts
 mod Listed

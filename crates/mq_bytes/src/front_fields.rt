@@ -7,6 +7,7 @@ ghost use Rattle.mq_decode.specs.Views.{packet_of};
 ghost use Rattle.mq_bytes.specs.Places.{IsLocated, Lies, Shows, ShowsConnAck, ShowsList, ShowsNumber, ShowsPublish, dup_of, identifier_of};
 
 use crate::connect_places::connect_fields;
+use crate::frequent::locate_frequent;
 use crate::places::{Field, Front, PacketFields};
 use mq_decode::{Limits, PacketView, PublishView, View, view};
 use mq_packet::{ConnAck, Delivery, PacketId};
@@ -14,8 +15,21 @@ use mq_wire::{LengthReading, length_laws, loose_length_at};
 
 /// Returns the packet at the front of the buffer with the places of its fields. The size of the
 /// packet can exceed the limit by the five bytes of the fixed header. Allocates nothing.
-#[tactic(auto, using(crate::proofs::Located::located))]
+#[inline(always)]
 pub fn locate(bytes: &[u8], limits: Limits) -> Front
+    ensures { IsLocated limits bytes.now result }
+{
+    match locate_frequent(bytes, limits) {
+        Some(fields) => Front::Whole(fields),
+        None => locate_any(bytes, limits),
+    }
+}
+
+// The same for every packet. It is inlined so that the result of the short path is not written to
+// memory and copied.
+#[inline(always)]
+#[tactic(auto, using(crate::proofs::Located::located))]
+fn locate_any(bytes: &[u8], limits: Limits) -> Front
     ensures { IsLocated limits bytes.now result }
 {
     match view(bytes, limits) {
@@ -79,8 +93,8 @@ pub(crate) fn bare(kind: u8, size: usize) -> PacketFields
     }
 }
 
-// A packet whose only field is an identifier.
-fn numbered(kind: u8, id: PacketId, size: usize) -> PacketFields
+/// A packet whose only field is an identifier.
+pub(crate) fn numbered(kind: u8, id: PacketId, size: usize) -> PacketFields
     ensures kind { ShowsNumber result kind id }
     ensures size { result.size ≡ size }
 {
@@ -117,8 +131,8 @@ fn connack(answer: ConnAck, size: usize) -> PacketFields
     fields
 }
 
-// The identifier of a PUBLISH, DUP, and the number of bytes of the identifier (3.3.2.2).
-fn delivery_parts(delivery: Option<Delivery>) -> (u16, bool, usize)
+/// The identifier of a PUBLISH, DUP, and the number of bytes of the identifier (3.3.2.2).
+pub(crate) fn delivery_parts(delivery: Option<Delivery>) -> (u16, bool, usize)
     ensures id { result.0 ≡ identifier_of delivery }
     ensures dup { result.1 ≡ dup_of delivery }
     ensures size { result.2 ≡ length (delivery_fields delivery) }

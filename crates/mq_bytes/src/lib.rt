@@ -10,6 +10,7 @@ mod check;
 mod connect_places;
 mod encode;
 mod fault;
+mod frequent;
 mod front_fields;
 mod items;
 mod places;

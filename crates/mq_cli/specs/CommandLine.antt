@@ -131,6 +131,12 @@ IsPatience command time =
     ((word : Text) × GivesWord command (codes "broker") (codes "CONNECT_WITHIN") word × IsTime word time)
     ⊎ (HasWord command (codes "broker") (codes "CONNECT_WITHIN") None × (time ≡ Some 10))
 
+-- the time after which the session of an absent client is removed, or never if it was not given
+abbrev pub IsExpiry : Option (Text × List Row) → Option ℕ → Type 0
+IsExpiry command time =
+    ((word : Text) × GivesWord command (codes "broker") (codes "SESSION_EXPIRY") word × IsTime word time)
+    ⊎ (HasWord command (codes "broker") (codes "SESSION_EXPIRY") None × (time ≡ None))
+
 -- the word of a choice
 abbrev pub full_word : OnFull → Text
 full_word choices.Drop = codes "drop"
@@ -149,7 +155,9 @@ pub record IsBroker (command : Option (Text × List Row)) (broker : Broker) : Ty
   pub max_sessions : IsLimit command (codes "MAX_SESSIONS") 100000 broker.max_sessions
   pub max_packet : IsLimit command (codes "MAX_PACKET") 1048576 broker.max_packet
   pub capacity : IsLimit command (codes "CAPACITY") 1000 broker.capacity
+  pub max_stored : IsLimit command (codes "MAX_STORED") 16777216 broker.max_stored
   pub max_waiting : IsLimit command (codes "MAX_WAITING") 1048576 broker.max_waiting
+  pub session_expiry : IsExpiry command broker.session_expiry
   pub connect_within : IsPatience command broker.connect_within
   pub when_full : IsOnFull command broker.when_full
   pub passwords : HasWord command (codes "broker") (codes "PASSWORDS") (option_map (λ file. file.now) broker.passwords)

@@ -111,6 +111,11 @@ abbrev pub with_limits : App → App
 with_limits app =
     with_rule (with_rule (with_rule app (limit_rule (codes "MAX_PACKET") (codes "max-packet") (Signed (pos 64) (pos 268435455)))) (limit_rule (codes "CAPACITY") (codes "capacity") (Signed (pos 1) (pos 65535)))) (limit_rule (codes "MAX_WAITING") (codes "max-waiting") (Signed (pos 0) (pos 4294967295)))
 
+-- the bytes that a session stores, and the time after which it is removed
+abbrev pub with_sessions : App → App
+with_sessions app =
+    with_rule (with_rule app (limit_rule (codes "MAX_STORED") (codes "max-stored") (Signed (pos 0) (pos 4294967295)))) (file_rule (codes "SESSION_EXPIRY") (codes "session-expiry"))
+
 -- the time within which a connection must send CONNECT, and the treatment of full sessions
 abbrev pub with_patience : App → App
 with_patience app = with_rule (with_rule app (file_rule (codes "CONNECT_WITHIN") (codes "connect-within"))) (file_rule (codes "WHEN_FULL") (codes "when-full"))
@@ -126,7 +131,7 @@ with_logs app =
 
 -- `broker`, whose options can all be left out
 abbrev pub broker_words : App
-broker_words = with_logs (with_extras (with_patience (with_limits (with_tables (with_rule (new_app (codes "broker")) (file_rule (codes "LISTEN") (codes "listen")))))))
+broker_words = with_logs (with_extras (with_patience (with_sessions (with_limits (with_tables (with_rule (new_app (codes "broker")) (file_rule (codes "LISTEN") (codes "listen"))))))))
 
 -- `broker`, `password NAME`, `loopback FILE`
 abbrev pub program_words : App

@@ -3,8 +3,8 @@
 ghost use Rattle.std.specs.Prelude.{◌≡◌, false, codes, IfOk, IfSome};
 ghost use Rattle.clap.specs.Words.{app_of, rule_of, subcommand_rows_of};
 ghost use Rattle.clap.specs.declared.builder.command.Command.TheViews.{out-Command};
-ghost use Rattle.mq_cli.specs.CommandLine.{IsBroker, IsLimit, IsOnFull, IsPatience, IsTime, full_word};
-ghost use Rattle.mq_cli.specs.Grammar.{broker_words, limit_rule, with_extras, with_limits, with_logs, with_patience, with_tables};
+ghost use Rattle.mq_cli.specs.CommandLine.{IsBroker, IsExpiry, IsLimit, IsOnFull, IsPatience, IsTime, full_word};
+ghost use Rattle.mq_cli.specs.Grammar.{broker_words, limit_rule, with_extras, with_limits, with_logs, with_patience, with_sessions, with_tables};
 
 use crate::grammar::{Texts, file_option, flag, new_command, with_arg};
 use crate::words::{flag_of, given_of, number_of};
@@ -37,8 +37,13 @@ pub struct Broker<'a> {
     pub max_packet: u32,
     /// The maximum number of packet identifiers in use in a session (2.3.1).
     pub capacity: u16,
-    /// The number of bytes that may wait for a connection whose socket takes none.
+    /// The maximum number of topic and payload bytes of the messages that a session stores (4.1).
+    pub max_stored: u32,
+    /// The number of output bytes beyond which a connection misses messages of QoS 0.
     pub max_waiting: u32,
+    /// The seconds after which the session of an absent client is removed, at least 1; `None` to
+    /// keep it (3.1.2.4).
+    pub session_expiry: Option<u32>,
     /// The seconds within which a connection must send CONNECT, at least 1; `None` for no limit.
     pub connect_within: Option<u32>,
     /// The treatment of a message whose receiver has no packet identifier free.
@@ -107,11 +112,31 @@ fn with_limits<'a>(alloc: Global, command: Command<'a>) -> Result<Command<'a>, A
         "The maximum number of unacknowledged messages of a session, 1 to 65535 [default: 1000]";
     let kind = value_parser!(u16).range(1..=65_535);
     let command = with_arg(command, limit(alloc, "CAPACITY", "capacity", help, kind))?;
-    let help = "The bytes that may wait for a client that reads none [default: 1048576]";
+    let help =
+        "The output bytes beyond which a connection misses messages of QoS 0 [default: 1048576]";
     let kind = value_parser!(u32);
     with_arg(
         command,
         limit(alloc, "MAX_WAITING", "max-waiting", help, kind),
+    )
+}
+
+// The command with the limits of stored sessions.
+fn with_sessions<'a>(alloc: Global, command: Command<'a>) -> Result<Command<'a>, AllocError>
+    ensures words { IfOk result (λ new. app_of new ≡ with_sessions (app_of command.entry)) }
+    ensures local { IfOk result (λ new. (out-Command new).has_globals ≡ (out-Command command.entry).has_globals) }
+{
+    let help = "The maximum bytes of the messages that a session stores [default: 16777216]";
+    let kind = value_parser!(u32);
+    let command = with_arg(
+        command,
+        limit(alloc, "MAX_STORED", "max-stored", help, kind),
+    )?;
+    let help =
+        "The seconds after which the session of an absent client is removed, or `never` [default: never]";
+    with_arg(
+        command,
+        file_option(alloc, "SESSION_EXPIRY", "session-expiry", help),
     )
 }
 
@@ -155,6 +180,15 @@ fn with_logs<'a>(alloc: Global, command: Command<'a>) -> Result<Command<'a>, All
     with_arg(command, flag(alloc, "VERBOSE", "verbose", help))
 }
 
+// The command with the limits of stored sessions, and with those for silent or full clients.
+fn with_times<'a>(alloc: Global, command: Command<'a>) -> Result<Command<'a>, AllocError>
+    ensures words { IfOk result (λ new. app_of new ≡ with_patience (with_sessions (app_of command.entry))) }
+    ensures local { IfOk result (λ new. (out-Command new).has_globals ≡ (out-Command command.entry).has_globals) }
+{
+    let command = with_sessions(alloc, command)?;
+    with_patience(alloc, command)
+}
+
 /// `broker [--listen ADDR:PORT] ..`.
 pub(crate) fn broker_command<'a>(alloc: Global) -> Result<Command<'a>, AllocError>
     ensures words { IfOk result (λ command. app_of command ≡ broker_words) }
@@ -171,7 +205,7 @@ pub(crate) fn broker_command<'a>(alloc: Global) -> Result<Command<'a>, AllocErro
     let command = with_arg(command, file_option(alloc, "LISTEN", "listen", help))?;
     let command = with_tables(alloc, command)?;
     let command = with_limits(alloc, command)?;
-    let command = with_patience(alloc, command)?;
+    let command = with_times(alloc, command)?;
     let command = with_extras(alloc, command)?;
     with_logs(alloc, command)
 }
@@ -198,7 +232,7 @@ fn limit_of_16_bits(matches: &ArgMatches<'_>, word: &str, default: u64) -> Optio
     u16::try_from(limit_of(matches, word, default)?).ok()
 }
 
-// The time of `--connect-within`: seconds, or `None` for `never`.
+// A time: seconds, or `None` for `never`.
 fn time_of(text: &str) -> Option<Option<u32>>
     ensures { IfSome result (IsTime text.now) }
 {
@@ -219,6 +253,15 @@ fn patience_of(matches: &ArgMatches<'_>) -> Option<Option<u32>>
 {
     match given_of(matches, "broker", "CONNECT_WITHIN")? {
         None => Some(Some(PATIENCE)),
+        Some(text) => time_of(text),
+    }
+}
+
+fn expiry_of(matches: &ArgMatches<'_>) -> Option<Option<u32>>
+    ensures { IfSome result (IsExpiry (subcommand_rows_of matches.now)) }
+{
+    match given_of(matches, "broker", "SESSION_EXPIRY")? {
+        None => Some(None),
         Some(text) => time_of(text),
     }
 }
@@ -245,8 +288,11 @@ fn on_full_of(matches: &ArgMatches<'_>) -> Option<OnFull>
 
 /// The error for arguments of `broker` that the parser accepts although they are not valid.
 pub(crate) fn broker_complaint(matches: &ArgMatches<'_>) -> &'static str {
-    match patience_of(matches) {
-        None => "--connect-within wants seconds, from 1 to 4294967295, or never",
+    if patience_of(matches).is_none() {
+        return "--connect-within wants seconds, from 1 to 4294967295, or never";
+    }
+    match expiry_of(matches) {
+        None => "--session-expiry wants seconds, from 1 to 4294967295, or never",
         Some(_) => "--when-full wants drop or close",
     }
 }
@@ -261,7 +307,9 @@ pub(crate) fn broker_of<'a>(matches: &ArgMatches<'a>) -> Option<Broker<'a>>
         max_sessions: limit_of_32_bits(matches, "MAX_SESSIONS", 100_000)?,
         max_packet: limit_of_32_bits(matches, "MAX_PACKET", 1_048_576)?,
         capacity: limit_of_16_bits(matches, "CAPACITY", 1_000)?,
+        max_stored: limit_of_32_bits(matches, "MAX_STORED", 16_777_216)?,
         max_waiting: limit_of_32_bits(matches, "MAX_WAITING", 1_048_576)?,
+        session_expiry: expiry_of(matches)?,
         connect_within: patience_of(matches)?,
         when_full: on_full_of(matches)?,
         passwords: given_of(matches, "broker", "PASSWORDS")?,

@@ -395,8 +395,8 @@ impl<S: Stream, C: Clock, K: SessionSaver> Peer<S, C, K> {
         Ok(true)
     }
 
-    // Requests a subscription.
-    pub(crate) fn subscribe(&mut self, requests: NonEmpty<Request>) -> Result<(), ClientError>
+    /// Requests a subscription (3.8).
+    pub fn subscribe(&mut self, requests: NonEmpty<Request>) -> Result<(), ClientError>
         ensures went { OnOk result
             (Went self.old self.new (Subscription requests ∷ []) [] []) }
         ensures refused { OnErr result (Went self.old self.new [] [] []) }

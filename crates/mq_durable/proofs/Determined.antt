@@ -24,11 +24,11 @@ use Rattle.mq_route.specs.declared.connection_state.ConnectionState.TheVariants.
 use Rattle.mq_route.specs.declared.event.HubEvent.{HubEvent}
 use Rattle.mq_route.specs.declared.event.HubEvent.TheVariants.{Opened, Bytes, Ended, Tick, Collect}
 use Rattle.mq_route.specs.declared.reply.HubReply.{HubReply}
-use Rattle.mq_route.specs.Hub.{HubState, HubConnection, without_connection, stage_of, is_open, key_on, up_on, key_of, end_of, with_end, held_on}
+use Rattle.mq_route.specs.Hub.{HubState, HubConnection, without_connection, stage_of, is_open, key_on, up_on, key_of, end_of, with_end, with_left, held_on}
 use Rattle.mq_route.specs.Welcome.{client_of, ends_with, refusal}
-use Rattle.mq_route.specs.Work.{Work, begin, said, with_sessions, shut, put_on, does, have_room, last_will, will_after, remove_if, leaves_behind, close}
+use Rattle.mq_route.specs.Work.{Work, begin, said, with_sessions, shut, put_on, does, have_room, last_will, will_after, remove_if, leaves_behind, shut_down, close}
 use Rattle.mq_route.specs.Arrives.{Growth, due, answers_all, replies, take_over, goes_on, accept_connect, on_connect, on_first_packet, dispatch_packet, touched_on, arrives, noted, takes, closes_by, broken, on_malformed}
-use Rattle.mq_route.specs.Step.{holding, is_open_on, Comes, Arrives, Waits, Breaks, Starves, LetsGo, Ticks, Done, InTime, Late, Does, done, ended, ended_open, told}
+use Rattle.mq_route.specs.Step.{holding, is_open_on, Comes, Arrives, Waits, Breaks, Starves, LetsGo, Ticks, Done, InTime, Late, Does, done, ended, ended_open, expire, told}
 use Rattle.mq_route.specs.Runs.{Episode, Follows}
 use Rattle.mq_durable.specs.Determined.{ReplayLaws}
 use Rattle.mq_durable.specs.Memory.{lacks_memory, reports_memory}
@@ -55,8 +55,10 @@ leaves_same why fits (ConnectedAs key terms last_activity) w quiet =
 leaves_same why fits Closed w quiet = refl
 
 close_same : (k : Conn) (why : HubClose) (fits : Bool) (w : Work) → IsQuiet (close k why fits w) → close k why fits w ≡ close k why true w
-unfolding close
-close_same k why fits w quiet = leaves_same why fits (stage_of k w.hub.connections) (said (acts.Closed k why) (shut k w)) quiet
+unfolding close shut_down
+close_same k why fits w quiet =
+    ap (λ (v : Work). with_sessions (with_left (key_on (stage_of k w.hub.connections)) w.hub.clock) v)
+    (leaves_same why fits (stage_of k w.hub.connections) (said (acts.Closed k why) (shut k w)) quiet)
 
 -- a close that reports a failed allocation
 starved : (k : Conn) (fits : Bool) (w : Work) → IsQuiet (close k (Own reasons.Memory) fits w) → ⊥
@@ -225,7 +227,7 @@ module _ (reading : OneReading) (laws : ReadsAgain) where
       let same : w ≡ v = d.1 ∙ ended_same k d.0 h first ∙ sym (ended_same k f.0 h second) ∙ sym f.1 in
       (same, d.2 ∙ ap (λ (x : Work). done false x) same ∙ sym f.2)
   does_same h (Tick now) r s w v d f quiet calm =
-      let start : Work = begin (told now h) in
+      let start : Work = expire (told now h) in
       let same : w ≡ v = ticks_same h.config.connect_within (max h.clock now) h.connections start start w v d.0 f.0 refl (quiet_reply r true w d.1 quiet) (quiet_reply s true v f.1 calm) in
       (same, d.1 ∙ ap (λ (x : Work). done true x) same ∙ sym f.1)
   does_same h (Collect k) r s w v d f quiet calm = (d.0 ∙ sym f.0, d.1 ∙ sym f.1)

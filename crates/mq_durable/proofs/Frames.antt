@@ -34,9 +34,9 @@ use Rattle.mq_route.specs.declared.connection_state.ConnectionState.TheVariants.
 use Rattle.mq_route.specs.Copies.{will_message, kept}
 use Rattle.mq_route.specs.Hub.{HubState, HubConnection, is_connection, with_connection, without_connection, stage_of, is_open, held_on, up_on, key_of, end_of, with_end, copies_of}
 use Rattle.mq_route.specs.Welcome.{client_of, ends_with, refusal}
-use Rattle.mq_route.specs.Work.{Work, begin, said, with_connections, with_sessions, staged, shut, put_on, put_where, does, publishes_next, place, place_all, have_room, is_missed, deliver, remove, last_will, will_after, remove_if, leaves_behind, close, subscribed, unsubscribed, retained_copies}
+use Rattle.mq_route.specs.Work.{Work, begin, said, with_connections, with_sessions, staged, shut, put_on, put_where, does, publishes_next, place, place_all, have_room, is_missed, deliver, remove, last_will, will_after, remove_if, leaves_behind, shut_down, close, subscribed, unsubscribed, retained_copies}
 use Rattle.mq_route.specs.Arrives.{Growth, granted, due, answers, answers_all, replies, greeting, terms_of, resume_session, new_session, start_session, take_over, goes_on, accept_connect, on_connect, on_first_packet, dispatch_packet, touched, touched_on, arrives, takes, closes_by, broken, on_malformed}
-use Rattle.mq_route.specs.Step.{holding, Comes, Arrives, Waits, Breaks, Starves, LetsGo, Ticks, Done, InTime, Late, Does, HubStep, ended_open, told}
+use Rattle.mq_route.specs.Step.{holding, Comes, Arrives, Waits, Breaks, Starves, LetsGo, Ticks, Done, InTime, Late, Does, HubStep, ended_open, expire, expired_keys, remove_all, told}
 use Rattle.mq_route.specs.Routed.{same_conn}
 
 -- the names of the connections, and the clock
@@ -106,7 +106,7 @@ leaves_stay why fits (ConnectedAs key terms last_activity) w =
 leaves_stay why fits Closed w = refl
 
 close_stays : (k : Conn) (why : HubClose) (fits : Bool) (w : Work) → frame (close k why fits w).hub ≡ frame w.hub
-unfolding close
+unfolding close shut_down
 close_stays k why fits w =
     leaves_stay why fits (stage_of k w.hub.connections) (said (acts.Closed k why) (shut k w))
     ∙ line_stays (λ x. record x { stage = Closed; held = [] }) (λ x. refl) k w
@@ -226,6 +226,15 @@ ticks_stay within now xs w w2 (Done v) = refl
 ticks_stay within now xs w w2 (InTime x ys v v2 soon more) = ticks_stay within now ys v v2 more
 ticks_stay within now xs w w2 (Late x ys why fits v v2 late more) = ticks_stay within now ys (close x.conn why fits v) v2 more ∙ close_stays x.conn why fits v
 
+removals_stay : (keys : List ℕ) (w : Work) → frame (remove_all keys w).hub ≡ frame w.hub
+unfolding remove
+removals_stay [] w = refl
+removals_stay (key ∷ keys) w = removals_stay keys (remove key w)
+
+expire_stays : (h : HubState) → frame (expire h).hub ≡ frame h
+unfolding expire
+expire_stays h = removals_stay (expired_keys h) (begin h)
+
 ended_stays : (k : Conn) (alive fits : Bool) (w : Work) → frame (ended_open k alive fits w).hub ≡ frame w.hub
 ended_stays k true fits w = close_stays k PeerEnded fits w
 ended_stays k false fits w = refl
@@ -267,7 +276,7 @@ does_frame h (Ended k) r w d =
     let same = ended_stays k (is_open (stage_of k h.connections)) d.0 (begin h) in
     ap (λ (u : Work). frame u.hub) d.1
     ∙ ap₂ (λ (ns : List Conn) (n : ℕ). (ns, n)) (without_names k v.hub.connections h.connections (ap (λ (f : List Conn × ℕ). f.0) same)) (ap (λ (f : List Conn × ℕ). f.1) same)
-does_frame h (Tick now) r w d = ticks_stay h.config.connect_within (max h.clock now) h.connections (begin (told now h)) w d.0
+does_frame h (Tick now) r w d = ticks_stay h.config.connect_within (max h.clock now) h.connections (expire (told now h)) w d.0 ∙ expire_stays (told now h)
 does_frame h (Collect k) r w d =
     ap (λ (v : Work). frame v.hub) d.0 ∙ ap (λ (ns : List Conn). (ns, h.clock)) (named (λ x. record x { waiting = [] }) (λ x. refl) k h.connections)
 

@@ -29,7 +29,7 @@ use Rattle.mq_route.specs.declared.connection_state.ConnectionState.TheVariants.
 use Rattle.mq_route.specs.Copies.{will_message, kept}
 use Rattle.mq_route.specs.Hub.{HubConnection, stage_of, up_on, key_of, end_of, with_end, copies_of}
 use Rattle.mq_route.specs.Welcome.{client_of, ends_with, refusal}
-use Rattle.mq_route.specs.Work.{Work, said, with_sessions, staged, shut, put_on, put_where, does, publishes_next, is_missed, place, place_all, have_room, deliver, remove, last_will, will_after, remove_if, leaves_behind, close, subscribed, unsubscribed, retained_copies}
+use Rattle.mq_route.specs.Work.{Work, said, with_sessions, staged, shut, put_on, put_where, does, publishes_next, is_missed, place, place_all, have_room, deliver, remove, last_will, will_after, remove_if, leaves_behind, shut_down, close, subscribed, unsubscribed, retained_copies}
 use Rattle.mq_route.specs.Arrives.{Growth, granted, due, answers, answers_all, replies, greeting, terms_of, resume_session, new_session, start_session, take_over, goes_on, accept_connect, on_connect, on_first_packet, dispatch_packet, touched_on, arrives, takes, closes_by, broken, on_malformed}
 use Rattle.mq_route.specs.Step.{holding, Comes, Arrives, Waits, Breaks, Starves, LetsGo, Ticks, Done, InTime, Late}
 use Rattle.mq_durable.specs.Memory.{lacks_memory}
@@ -108,7 +108,7 @@ leaves_grow why fits Closed w = still w w refl
 
 -- the act of a close, and then the others
 pub close_first : (k : Conn) (why : HubClose) (fits : Bool) (w : Work) → Grows (said (acts.Closed k why) (shut k w)) (close k why fits w)
-unfolding close
+unfolding close shut_down
 close_first k why fits w = leaves_grow why fits (stage_of k w.hub.connections) (said (acts.Closed k why) (shut k w))
 
 pub close_grows : (k : Conn) (why : HubClose) (fits : Bool) (w : Work) → Grows w (close k why fits w)

@@ -1,9 +1,9 @@
-mod Entries
+pub mod Entries
 mod Crashes
-mod Runs
+pub mod Runs
 mod Frames
-mod Names
-mod Recoveries
+pub mod Names
+pub mod Recoveries
 mod Reports
 mod Kept
 mod CallLaws

@@ -19,3 +19,4 @@ pub mod Measures
 pub mod Rooms
 pub mod Readiness
 pub mod Rises
+pub mod Digits

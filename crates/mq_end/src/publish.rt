@@ -18,7 +18,8 @@ use std::alloc::AllocError;
 
 /// The remaining length of the PUBLISH of a message, in bytes (2.2.3, 3.3).
 pub(crate) fn publish_size(message: &Message) -> usize
-    ensures { result ≡ publish_size message.now }
+    ensures value { result ≡ publish_size message.now }
+    ensures short { result < 2 ^ 32 }
 {
     let identifier = if message.qos == Qos::Q0 { 0 } else { 2 };
     let topic = message.topic.as_str().len();

@@ -1,5 +1,6 @@
 pub mod Fronts
 pub mod Tables
+pub mod StoredBytes
 pub mod Slots
 pub mod Counting
 pub mod Ascending

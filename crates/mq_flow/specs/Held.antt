@@ -2,8 +2,9 @@
 -- 4.3.3).
 use Rattle.std.specs.Prelude.{ℕ, ◌+◌, ◌≤◌, ◌≡◌, Bool, true, false, if◌then◌else◌, List, [], ◌∷◌, length, nat_eq, Option, Some, None}
 use Rattle.std.specs.List.{flat_map, AllByRecursion}
-use Rattle.std.specs.Map.{keys_of}
+use Rattle.std.specs.Map.{keys_of, lookup}
 use Rattle.mq_flow.specs.Sender.{SenderBook, times}
+use Rattle.mq_flow.specs.Stored.{message_bytes}
 use Rattle.mq_flow.specs.declared.claim.Claimed.{Claimed}
 use Rattle.mq_flow.specs.declared.entry.Entry.{Entry}
 use Rattle.mq_flow.specs.declared.table.Held.{Held}
@@ -44,6 +45,20 @@ AreUnder = AllByRecursion (λ p. id_in p.1 ≡ p.0)
 abbrev pub gone_out : Held → Held
 gone_out (Waiting e) = Waiting (record { id = e.id; message = e.message; sent = true })
 gone_out (Released i) = Released i
+
+-- The topic and payload bytes of the message, unless it is acknowledged.
+abbrev pub bytes_in : Held → ℕ
+bytes_in (Waiting e) = message_bytes e.message
+bytes_in (Released i) = 0
+
+-- the bytes of the entry that is found
+abbrev pub bytes_found : Option Held → ℕ
+bytes_found None = 0
+bytes_found (Some h) = bytes_in h
+
+-- the bytes of the message of an identifier; 0 without a message
+abbrev pub bytes_under : ℕ → List (ℕ × Held) → ℕ
+bytes_under i ps = bytes_found (lookup (nat_eq i) ps)
 
 -- ---- places, some of which are empty
 

@@ -1,4 +1,5 @@
 pub mod Sender
+pub mod Stored
 pub mod Held
 pub mod Sending
 pub mod Receiver

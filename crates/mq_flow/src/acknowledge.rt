@@ -5,7 +5,6 @@ ghost use Rattle.mq_flow.specs.Sender.{on_puback, on_pubrec, on_pubcomp, puback_
 
 use crate::reaction::Reaction;
 use crate::sender::Sender;
-use crate::table::Held;
 use mq_packet::PacketId;
 use mq_topic::Qos;
 
@@ -39,7 +38,7 @@ impl Sender {
         if !self.awaits(Qos::Q2, id) {
             return Reaction::Stray;
         }
-        self.table.turn(Held::Released(id));
+        self.table.release(id);
         Reaction::Release(id)
     }
 

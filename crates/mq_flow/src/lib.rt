@@ -22,6 +22,7 @@ mod save;
 mod saved;
 mod sender;
 mod session;
+mod stored;
 mod table;
 
 pub use crate::claim::{Claim, Claimed};
@@ -36,3 +37,4 @@ pub use crate::receiver::Receiver;
 pub use crate::saved::Saved;
 pub use crate::sender::Sender;
 pub use crate::session::Session;
+pub use crate::stored::message_bytes;

@@ -8,6 +8,7 @@ ghost use Rattle.mq_topic.specs.declared.qos.Qos.TheVariants.{Q0, Q1, Q2};
 ghost use Rattle.mq_flow.specs.Laws.{IsSound};
 ghost use Rattle.mq_flow.specs.Next.{next_identifier};
 ghost use Rattle.mq_flow.specs.Sender.{blank_book, uses, times, IsFree, IsFirstFree, is_full, is_awaited, same_qos, held, accept as accepted, claim, release, no_claims, awaits_suback, awaits_unsuback};
+ghost use Rattle.mq_flow.specs.Stored.{stored_bytes};
 
 use crate::claim::{Claim, Claimed};
 use crate::entry::Entry;
@@ -277,6 +278,13 @@ impl Sender {
             Some(Held::Released(_)) => false,
             None => false,
         }
+    }
+
+    /// Returns the number of topic and payload bytes of the messages not yet acknowledged (4.1).
+    pub fn stored_bytes(&self) -> u64
+        ensures { result ≡ stored_bytes self.now.book }
+    {
+        self.table.bytes()
     }
 
     /// Returns whether there is no message and no released identifier.

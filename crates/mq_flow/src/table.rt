@@ -1,17 +1,19 @@
 //! The identifiers of messages, each found at once, and in an order (2.3.1, 4.3.2, 4.3.3).
 
-ghost use Rattle.std.specs.Prelude.{ℕ, ◌≡◌, ◌+◌, ◌<◌, ◌≤◌, [], ◌∷◌, ◌++◌, None, List, nat_eq, length, map, is_some, filter, vec_capacity, slice_set, slice_index_or, Some, if◌then◌else◌, OnOk, OnErr, IsOk, IsSome, IfSome};
+ghost use Rattle.std.specs.Prelude.{ℕ, ◌≡◌, ◌+◌, ◌^◌, ◌<◌, ◌≤◌, [], ◌∷◌, ◌++◌, None, List, nat_eq, length, map, is_some, filter, vec_capacity, slice_set, slice_index_or, Some, if◌then◌else◌, OnOk, OnErr, IsOk, IsSome, IfSome};
 ghost use Rattle.std.specs.Option.{option_copied, option_map};
 ghost use Rattle.std.specs.HashMap.{get, hash_map_len, spare};
 ghost use Rattle.std.specs.Map.{keys_of, lookup, remove_entry};
 ghost use Rattle.std.specs.Map.Iter.{ShowsInOrder, GivesInOrder, deref};
 ghost use Rattle.mq_flow.specs.declared.entry.Entry.{Entry};
-ghost use Rattle.mq_flow.specs.Held.{messages, releases, gone_out, id_in, pairs_in, IsPlaced};
+ghost use Rattle.mq_flow.specs.Held.{bytes_in, bytes_under, messages, releases, gone_out, id_in, pairs_in, IsPlaced};
 ghost use Rattle.mq_flow.specs.Sender.{times};
+ghost use Rattle.mq_flow.specs.Stored.{entry_bytes};
 ghost use Rattle.mq_flow.specs.declared.table.Held.{Held};
 
 use crate::entry::Entry;
 use crate::iter::{Entries, Releases};
+use crate::stored::message_bytes;
 use mq_packet::PacketId;
 use std::alloc::{AllocError, Global};
 use std::collections::HashMap;
@@ -46,18 +48,21 @@ pub(crate) struct Table {
     pub(crate) slots: Vec<Option<Held>>,
     /// The place in which each identifier is.
     pub(crate) places: HashMap<u16, usize>,
+    /// The topic and payload bytes of the messages.
+    pub(crate) bytes: u64,
 }
 
 impl Model for Table {
     ghost use Rattle.std.specs.Prelude.{◌≡◌, ◌-◌, ◌≤◌, min, length, nat_eq, vec_capacity};
     ghost use Rattle.std.specs.HashMap.{get, hash_map_len, spare};
-    ghost use Rattle.mq_flow.specs.Held.{Kept, pairs_in, place_from, IsPlaced};
+    ghost use Rattle.mq_flow.specs.Held.{Kept, messages, pairs_in, place_from, IsPlaced};
+    ghost use Rattle.mq_flow.specs.Stored.{AreCounted};
 
     ghost Value = { Kept };
 
     ghost view = { λ t. record { pairs = pairs_in t.slots.items; spare = min (vec_capacity t.slots - 1 - length (pairs_in t.slots.items)) (spare t.places) } };
 
-    ghost invariant = { λ t. IsPlaced t.slots.items (get nat_eq t.places) (hash_map_len t.places) × (length (pairs_in t.slots.items) ≤ vec_capacity t.slots - 1) };
+    ghost invariant = { λ t. IsPlaced t.slots.items (get nat_eq t.places) (hash_map_len t.places) × (length (pairs_in t.slots.items) ≤ vec_capacity t.slots - 1) × AreCounted t.bytes (messages (pairs_in t.slots.items)) };
 }
 
 impl Table {
@@ -68,6 +73,7 @@ impl Table {
         Table {
             slots: Vec::new(alloc),
             places: HashMap::new(alloc),
+            bytes: 0,
         }
     }
 
@@ -94,6 +100,24 @@ impl Table {
             count -= 1;
         }
         count
+    }
+
+    /// Returns the number of topic and payload bytes of the messages.
+    pub(crate) fn bytes(&self) -> u64
+        ensures { result ≡ entry_bytes (messages self.now.pairs) }
+    {
+        self.bytes
+    }
+
+    /// Returns the number of these bytes in the message of an identifier; 0 without a message.
+    fn bytes_of(&self, id: PacketId) -> u64
+        ensures value { result ≡ bytes_under id self.now.pairs }
+        ensures within { result ≤ entry_bytes (messages self.now.pairs) }
+    {
+        match self.get(id) {
+            Some(held) => held_bytes(held),
+            None => 0,
+        }
     }
 
     /// Returns how many more the table can keep without more memory.
@@ -171,7 +195,8 @@ impl Table {
 
     /// Adds an entry with a new identifier at the end. On `Err` no entry changes.
     pub(crate) fn add(&mut self, held: Held) -> Result<(), AllocError>
-        requires { lookup (nat_eq (id_in held)) self.old.pairs ≡ None }
+        requires other { lookup (nat_eq (id_in held)) self.old.pairs ≡ None }
+        requires few { length self.old.pairs < 65536 }
         ensures ok { OnOk result (self.new.pairs ≡ self.old.pairs ++ (id_in held, held) ∷ []) }
         ensures err { OnErr result (self.new.pairs ≡ self.old.pairs) }
         ensures succeeds { 0 < self.old.spare → IsOk result }
@@ -183,17 +208,19 @@ impl Table {
             let _ = self.grow(self.len() / 4 + 4);
         }
         self.reserve(1)?;
+        self.bytes += held_bytes(&held);
         push(&mut self.slots, &mut self.places, held);
         Ok(())
     }
 
-    /// Replaces the entry of an identifier and moves it to the end.
-    pub(crate) fn turn(&mut self, held: Held)
-        requires { IsSome (lookup (nat_eq (id_in held)) self.old.pairs) }
-        ensures pairs { self.new.pairs ≡ remove_entry (nat_eq (id_in held)) self.old.pairs ++ (id_in held, held) ∷ [] }
+    /// Releases an identifier, whose message is acknowledged, and moves it to the end.
+    pub(crate) fn release(&mut self, id: PacketId)
+        requires { IsSome (lookup (nat_eq id) self.old.pairs) }
+        ensures pairs { self.new.pairs ≡ remove_entry (nat_eq id) self.old.pairs ++ (id, Held.Released id) ∷ [] }
         ensures spare { self.old.spare ≤ self.new.spare }
     {
-        turn_last(&mut self.slots, &mut self.places, held);
+        self.bytes -= self.bytes_of(id);
+        turn_last(&mut self.slots, &mut self.places, Held::Released(id));
     }
 
     /// Removes the entry of an identifier.
@@ -201,6 +228,7 @@ impl Table {
         ensures pairs { self.new.pairs ≡ remove_entry (nat_eq id) self.old.pairs }
         ensures spare { self.old.spare ≤ self.new.spare }
     {
+        self.bytes -= self.bytes_of(id);
         take_out(&mut self.slots, &mut self.places, id);
     }
 
@@ -211,6 +239,7 @@ impl Table {
     {
         self.slots.clear();
         self.places.clear();
+        self.bytes = 0;
     }
 
     /// Marks each message as sent.
@@ -219,6 +248,17 @@ impl Table {
         ensures spare { self.old.spare ≤ self.new.spare }
     {
         mark_slots(&mut self.slots);
+    }
+}
+
+/// Returns the number of topic and payload bytes of the message of an entry; 0 without a message.
+fn held_bytes(held: &Held) -> u64
+    ensures value { result ≡ bytes_in held.now }
+    ensures short { result < 2 ^ 29 }
+{
+    match held {
+        Held::Waiting(entry) => message_bytes(&entry.message),
+        Held::Released(_) => 0,
     }
 }
 

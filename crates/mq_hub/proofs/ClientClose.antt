@@ -20,7 +20,7 @@ use Rattle.mq_route.specs.declared.connection_state.ConnectionState.TheVariants.
 use Rattle.mq_route.specs.declared.connection_state.ConnectionTerms.{ConnectionTerms}
 use Rattle.mq_route.specs.Hub.{HubState, HubSession, HubConnection, changed, end_of, is_clean, is_for, is_connection, key_on, knows, stage_of, up_on, with_end, with_connection, without_session}
 use Rattle.mq_route.specs.Routed.{same_conn}
-use Rattle.mq_route.specs.Work.{Work, close, last_will, leaves_behind, remove, said, shut, will_after}
+use Rattle.mq_route.specs.Work.{Work, last_will, leaves_behind, remove, said, shut, shut_down, will_after}
 use Rattle.mq_hub.specs.declared.sessions.session.BrokerSession.{BrokerSession}
 use Rattle.mq_hub.specs.Inside.Refinement.{Refines}
 use Rattle.mq_hub.specs.Inside.Invariant.{AreApart, HubInvariant, ConnectionHasSession, IsQuiet, SessionMatchesConnection, IsWillWithin, stage_for}
@@ -397,8 +397,8 @@ goes_left k why key h g did says is said_is = record {
 
 -- `leaves_behind` is that, and then the last will
 pub close_parts : (k : Conn) (why : HubClose) (fits : Bool) (key : ℕ) (w : Work) → key_on (stage_of k w.hub.connections) ≡ Some key
-    → close k why fits w ≡ last_will key (will_left why (stage_of k w.hub.connections)) fits (parts k why key (is_clean (stage_of k w.hub.connections)) w)
-unfolding close leaves_behind parts
+    → shut_down k why fits w ≡ last_will key (will_left why (stage_of k w.hub.connections)) fits (parts k why key (is_clean (stage_of k w.hub.connections)) w)
+unfolding shut_down leaves_behind parts
 close_parts k why fits key w up = go (stage_of k w.hub.connections) up
   where
     go : (s : ConnectionState) → key_on s ≡ Some key
@@ -445,13 +445,13 @@ will_within most why k ts (x ∷ xs) all =
 -- the connection is closed, and then its last will is published
 pub goes_close : (k : Conn) (why : HubClose) (fits : Bool) (key : ℕ) (h g : HubState) (x z : List Act) (will : Option Will) (mid : HubState) (y : List Act)
     → key_on (stage_of k h.connections) ≡ Some key → will ≡ will_left why (stage_of k h.connections) → Refines (parts k why key (is_clean (stage_of k h.connections))) h x mid y
-    → Refines (last_will key will fits) mid y g z → Refines (close k why fits) h x g z
+    → Refines (last_will key will fits) mid y g z → Refines (shut_down k why fits) h x g z
 goes_close k why fits key h g x z will mid y up is p q = record {
   hub = λ w e f. ap (λ (v : Work). v.hub) (same w e) ∙ q.hub (parts k why key (is_clean (stage_of k h.connections)) w) (p.hub w e f) (p.did w e f);
   did = λ w e f. ap (λ (v : Work). v.did) (same w e) ∙ q.did (parts k why key (is_clean (stage_of k h.connections)) w) (p.hub w e f) (p.did w e f);
 }
   where
-    same : (w : Work) → w.hub ≡ h → close k why fits w ≡ last_will key will fits (parts k why key (is_clean (stage_of k h.connections)) w)
+    same : (w : Work) → w.hub ≡ h → shut_down k why fits w ≡ last_will key will fits (parts k why key (is_clean (stage_of k h.connections)) w)
     same w e =
         close_parts k why fits key w (ap (λ (a : HubState). key_on (stage_of k a.connections)) e ∙ up)
         ∙ ap₂ (λ (o : Option Will) (c : Bool). last_will key o fits (parts k why key c w))

@@ -11,7 +11,7 @@ use Rattle.mq_route.specs.declared.connection_state.ConnectionState.{ConnectionS
 use Rattle.mq_route.specs.declared.connection_state.ConnectionState.TheVariants.{AwaitingConnect, ConnectedAs, Closed}
 use Rattle.mq_route.specs.Hub.{HubState, HubConnection, changed, is_for, is_connection, key_on, knows, stage_of, up_on, with_connection}
 use Rattle.mq_route.specs.Routed.{same_conn}
-use Rattle.mq_route.specs.Work.{Work, close, leaves_behind, said, shut}
+use Rattle.mq_route.specs.Work.{Work, close, leaves_behind, said, shut, shut_down}
 use Rattle.mq_hub.specs.declared.sessions.session.BrokerSession.{BrokerSession}
 use Rattle.mq_hub.specs.Inside.Refinement.{Refines}
 use Rattle.mq_hub.specs.Inside.Invariant.{AreApart, HubInvariant, ConnectionHasSession, IsQuiet, stage_for}
@@ -19,6 +19,7 @@ use Rattle.mq_hub.specs.Inside.View.{HubTables, all_seen, hub_of, seen}
 use Rattle.mq_hub.specs.Inside.Sessions.{sessions_of}
 use Rattle.mq_hub.proofs.ConnectionChange.{own_bytes, rest_unknown, seen_still}
 use Rattle.mq_hub.proofs.ConnectionTable.{unknown}
+use Rattle.mq_hub.proofs.DisconnectTimes.{idle_close}
 use Rattle.mq_hub.proofs.InvariantChanges.{all_fitting_same, kept_by}
 
 abbrev pub closed : HubConnection → HubConnection
@@ -138,11 +139,13 @@ nothing_left why fits Closed w e = refl
 -- the change of the definition
 pub goes_closed : (k : Conn) (why : HubClose) (fits : Bool) (h g : HubState) (did says : List Act) → key_on (stage_of k h.connections) ≡ None → g ≡ record h { connections = with_connection closed k h.connections }
     → says ≡ did ++ acts.Closed k why ∷ [] → Refines (close k why fits) h did g says
-unfolding close
+unfolding shut_down
 goes_closed k why fits h g did says idle is said_is = record {
   hub = λ w e f. ap (λ (v : Work). v.hub) (left w e) ∙ ap (λ (a : HubState). record a { connections = with_connection closed k a.connections }) e ∙ sym is;
   did = λ w e f. ap (λ (v : Work). v.did) (left w e) ∙ ap (λ (a : List Act). a ++ acts.Closed k why ∷ []) f ∙ sym said_is;
 }
   where
-    left : (w : Work) → w.hub ≡ h → leaves_behind why fits (stage_of k w.hub.connections) (said (acts.Closed k why) (shut k w)) ≡ said (acts.Closed k why) (shut k w)
-    left w e = nothing_left why fits (stage_of k w.hub.connections) (said (acts.Closed k why) (shut k w)) (ap (λ (a : HubState). key_on (stage_of k a.connections)) e ∙ idle)
+    left : (w : Work) → w.hub ≡ h → close k why fits w ≡ said (acts.Closed k why) (shut k w)
+    left w e =
+        let none = ap (λ (a : HubState). key_on (stage_of k a.connections)) e ∙ idle in
+        idle_close k why fits w none ∙ nothing_left why fits (stage_of k w.hub.connections) (said (acts.Closed k why) (shut k w)) none

@@ -88,7 +88,7 @@ after_known Q0 i m e = refl
 after_known Q1 i m e = refl
 after_known Q2 i m e = refl
 
-after_state : (q : Qos) (i : ℕ) (m : Message) (e : End) → (publishes_at q i m e).end.state ≡ e.state
+pub after_state : (q : Qos) (i : ℕ) (m : Message) (e : End) → (publishes_at q i m e).end.state ≡ e.state
 after_state Q0 i m e = refl
 after_state Q1 i m e = refl
 after_state Q2 i m e = refl

@@ -28,7 +28,7 @@ use Rattle.mq_route.specs.Hub.{HubState, HubConnection, changed, copies_of, end_
 use Rattle.mq_route.specs.Routed.{same_conn}
 use Rattle.mq_route.specs.Welcome.{ends_with, refusal}
 use Rattle.mq_route.specs.Work.{Work, close, does, have_room, is_missed, last_will, leaves_behind, place, place_all, publishes_next, put_on, put_where, remove}
-use Rattle.mq_route.specs.Work.{remove_if, retained_copies, said, deliver, shut, staged, subscribed, unsubscribed, will_after, with_sessions}
+use Rattle.mq_route.specs.Work.{remove_if, retained_copies, said, deliver, shut, shut_down, staged, subscribed, unsubscribed, will_after, with_sessions}
 use Rattle.mq_hub.specs.Inside.Refinement.{Refines}
 
 -- ---- the states of connections
@@ -141,11 +141,11 @@ shut_there k (x ∷ xs) = go (is_connection k x) refl (shut_there k xs)
         ∙ cond-false (is_connection k x) x.stage (stage_of k (with_connection shuts k xs)) other ∙ rest
 
 pub closed_is_shut : (k : Conn) (why : HubClose) (fits : Bool) (w : Work) → stage_of k (close k why fits w).hub.connections ≡ Closed
-unfolding close
+unfolding close shut_down
 closed_is_shut k why fits w = (firm_leaves why fits (stage_of k w.hub.connections) (said (acts.Closed k why) (shut k w))).stage k ∙ shut_there k w.hub.connections
 
 pub config_close : (k : Conn) (why : HubClose) (fits : Bool) (w : Work) → (close k why fits w).hub.config ≡ w.hub.config
-unfolding close
+unfolding close shut_down
 config_close k why fits w = (firm_leaves why fits (stage_of k w.hub.connections) (said (acts.Closed k why) (shut k w))).config
 
 -- ---- the configuration

@@ -12,8 +12,8 @@ use Rattle.mq_route.specs.declared.conn.Conn.{Conn}
 use Rattle.mq_route.specs.declared.connection_state.ConnectionState.{ConnectionState}
 use Rattle.mq_route.specs.declared.connection_state.ConnectionState.TheVariants.{AwaitingConnect, ConnectedAs, Closed}
 use Rattle.mq_route.specs.Arrives.{arrives, on_first_packet, dispatch_packet, touched, touched_on, takes, on_connected_packet}
-use Rattle.mq_route.specs.Hub.{HubState, HubConnection, is_connection, is_open, key_on, stage_of, with_connection}
-use Rattle.mq_route.specs.Work.{Work, close, leaves_behind, said, shut}
+use Rattle.mq_route.specs.Hub.{HubState, HubConnection, is_connection, is_open, key_on, stage_of, with_connection, with_left}
+use Rattle.mq_route.specs.Work.{Work, close, leaves_behind, said, shut, shut_down, with_sessions}
 use Rattle.mq_hub.specs.Inside.Input.{touched_at, with_touched}
 use Rattle.mq_hub.specs.Inside.Refinement.{Refines}
 use Rattle.mq_hub.proofs.ConnectionTable.{heard_key}
@@ -80,12 +80,17 @@ shut_heard now k (x ∷ xs) = go (is_connection k x) refl (shut_heard now k xs)
         rest
 
 close_heard : (k : Conn) (why : HubClose) (fits : Bool) (w : Work) → close k why fits (touched_on k w) ≡ close k why fits w
-unfolding close
+unfolding close shut_down
 close_heard k why fits w =
-    ap (λ (s : ConnectionState). leaves_behind why fits s (said (acts.Closed k why) (shut k (touched_on k w)))) (stage_heard w.hub.clock k w.hub.connections)
-    ∙ left_heard why fits w.hub.clock (stage_of k w.hub.connections) (said (acts.Closed k why) (shut k (touched_on k w)))
-    ∙ ap (λ (xs : List HubConnection). leaves_behind why fits (stage_of k w.hub.connections) (said (acts.Closed k why) (record w { hub = record w.hub { connections = xs } })))
-    (shut_heard w.hub.clock k w.hub.connections)
+    let key = ap key_on (stage_heard w.hub.clock k w.hub.connections) ∙ heard_key w.hub.clock (stage_of k w.hub.connections) in
+    λ i. with_sessions (with_left (key i) w.hub.clock) (shut_heard_down k why fits w i)
+  where
+    shut_heard_down : (k : Conn) (why : HubClose) (fits : Bool) (w : Work) → shut_down k why fits (touched_on k w) ≡ shut_down k why fits w
+    shut_heard_down k why fits w =
+        ap (λ (s : ConnectionState). leaves_behind why fits s (said (acts.Closed k why) (shut k (touched_on k w)))) (stage_heard w.hub.clock k w.hub.connections)
+        ∙ left_heard why fits w.hub.clock (stage_of k w.hub.connections) (said (acts.Closed k why) (shut k (touched_on k w)))
+        ∙ ap (λ (xs : List HubConnection). leaves_behind why fits (stage_of k w.hub.connections) (said (acts.Closed k why) (record w { hub = record w.hub { connections = xs } })))
+        (shut_heard w.hub.clock k w.hub.connections)
 
 -- ---- the change of the definition
 

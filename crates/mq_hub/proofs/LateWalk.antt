@@ -24,17 +24,17 @@ use Rattle.mq_route.specs.declared.connection_state.ConnectionState.TheVariants.
 use Rattle.mq_route.specs.Copies.{will_message}
 use Rattle.mq_route.specs.Hub.{HubState, HubConnection, changed, copies_of, end_of, is_connection, knows, stage_of, up_on, with_end, with_connection}
 use Rattle.mq_route.specs.Routed.{same_conn}
-use Rattle.mq_route.specs.Step.{HubStep, Ticks, has_passed, late_reason, told}
+use Rattle.mq_route.specs.Step.{HubStep, Ticks, expire, expired_keys, has_passed, late_reason, remove_all, told}
 use Rattle.mq_route.specs.Step.Ticks.{Done, InTime, Late}
 use Rattle.mq_route.specs.Work.{Work, begin, close, does, have_room, is_missed, last_will, leaves_behind, place, place_all, publishes_next, put_on, put_where, remove}
-use Rattle.mq_route.specs.Work.{remove_if, said, deliver, shut, will_after, with_sessions}
+use Rattle.mq_route.specs.Work.{remove_if, said, deliver, shut, shut_down, will_after, with_sessions}
 use Rattle.mq_hub.specs.declared.sessions.session.BrokerSession.{BrokerSession}
 use Rattle.mq_hub.specs.Inside.Refinement.{Refines}
 use Rattle.mq_hub.specs.Inside.Invariant.{AreApart}
 use Rattle.mq_hub.specs.Inside.View.{all_seen, seen}
 use Rattle.mq_hub.specs.Deadline.{IsIdleBefore}
 use Rattle.mq_hub.specs.Inside.Alarms.{is_late_on, why_late}
-use Rattle.mq_hub.specs.Inside.Tick.{AreInTime, HasLate, TicksTo, late_of}
+use Rattle.mq_hub.specs.Inside.Tick.{AreInTime, HasLate, TicksFrom, late_of}
 use Rattle.mq_hub.proofs.ConnectionTable.{itself}
 use Rattle.mq_hub.proofs.TableView.{knows_seen}
 
@@ -159,7 +159,7 @@ module _ (k : Conn) where
       ap₂ (λ (q : Place) (ps : List Place). q ∷ ps) (cond-false (is_connection k x) (gone (place_of x)) (place_of x) p.0) (others xs p.1)
 
   places_close : (why : HubClose) (fits : Bool) (w : Work) → places (close k why fits w).hub.connections ≡ map shut_at (places w.hub.connections)
-  unfolding close
+  unfolding close shut_down
   places_close why fits w = leaves_left why fits (stage_of k w.hub.connections) (said (acts.Closed k why) (shut k w)) ∙ places_shut w.hub.connections
 
 -- ---- why it is closed
@@ -259,18 +259,23 @@ module _ (within : Option ℕ) (now : ℕ) where
   in_time_seen ts [] all = tt
   in_time_seen ts (x ∷ xs) all = (all.0, in_time_seen ts xs all.1)
 
-pub idle_before : (time : ℕ) (h : HubState) → ((now : ℕ) → now < time → AreInTime h.config.connect_within now h.connections) → IsIdleBefore time h
-idle_before time h none = λ now r h2 soon step.
-    let same : step.work ≡ begin (told now h) = ticks_none h.config.connect_within (max h.clock now) h.connections (begin (told now h)) step.work step.does.0 (none (max h.clock now) soon) in
+pub idle_before : (time : ℕ) (h : HubState) → ((now : ℕ) → now < time → AreInTime h.config.connect_within now h.connections)
+    → ((now : ℕ) → now < time → expired_keys (record h { clock = now }) ≡ []) → IsIdleBefore time h
+unfolding expire
+idle_before time h none kept = λ now r h2 soon step.
+    let start : expire (told now h) ≡ begin (told now h) = ap (λ (keys : List ℕ). remove_all keys (begin (told now h))) (kept (max h.clock now) soon) in
+    let same : step.work ≡ begin (told now h) =
+    ticks_none h.config.connect_within (max h.clock now) h.connections (expire (told now h)) step.work step.does.0 (none (max h.clock now) soon) ∙ start in
     (ap (λ (s : HubReply). s.acts) step.does.1 ∙ ap (λ (w : Work). w.did) same, step.after ∙ ap (λ (w : Work). w.hub) same)
 
-module _ (until top : ℕ) (h : HubState) (quiet : (now : ℕ) → now ≤ until → AreInTime h.config.connect_within now h.connections) where
+module _ (until top : ℕ) (h : HubState) (quiet : (now : ℕ) → now ≤ until → AreInTime h.config.connect_within now h.connections)
+    (kept : (now : ℕ) → now ≤ until → expired_keys (record h { clock = now }) ≡ []) where
   pub deadline_idle : (r : Option ℕ) → SomeIff r (until + 1 < top) (until + 1) → IfSome r (λ time. IsIdleBefore time h)
   deadline_idle None iff = tt
-  deadline_idle (Some time) iff = idle_before time h (λ now soon. quiet now (omega (arith, iff.1, soon)))
+  deadline_idle (Some time) iff = idle_before time h (λ now soon. quiet now (omega (arith, iff.1, soon))) (λ now soon. kept now (omega (arith, iff.1, soon)))
 
   pub deadline_never : (r : Option ℕ) → SomeIff r (until + 1 < top) (until + 1) → IfNone r (IsIdleBefore top h)
-  deadline_never None iff = idle_before top h (λ now soon. quiet now (omega (arith, iff, soon)))
+  deadline_never None iff = idle_before top h (λ now soon. quiet now (omega (arith, iff, soon))) (λ now soon. kept now (omega (arith, iff, soon)))
   deadline_never (Some time) iff = tt
 
 -- whatever output is pending
@@ -317,70 +322,78 @@ apart_seen i k x ts xs apart e is =
 -- ---- from one to the next
 
 -- The walk has come to the connection at this index.
-pub record IsTicking (within : Option ℕ) (now : ℕ) (old : HubState) (i : ℕ) (h : HubState) (says : List Act) : Type 0 where
+pub record IsTicking (within : Option ℕ) (now : ℕ) (start : Work) (i : ℕ) (h : HubState) (says : List Act) : Type 0 where
   pub work : Work
   pub hub : work.hub ≡ h
   pub did : work.did ≡ says
-  pub rest : (v : Work) → Ticks within now (drop i old.connections) work v → Ticks within now old.connections (begin old) v
-  pub same : drop i (places h.connections) ≡ drop i (places old.connections)
+  pub rest : (v : Work) → Ticks within now (drop i start.hub.connections) work v → Ticks within now start.hub.connections (start) v
+  pub same : drop i (places h.connections) ≡ drop i (places start.hub.connections)
   pub passed : AllInTime within now (take i (places h.connections))
-  pub count : length (places h.connections) ≡ length (places old.connections)
+  pub count : length (places h.connections) ≡ length (places start.hub.connections)
 
 pub none_by : (o : Option (Conn × HubClose)) → ((late : Conn × HubClose) → o ≡ Some late → ⊥) → o ≡ None
 none_by None never = refl
 none_by (Some late) never = absurd (never late refl)
 
-pub ticks_first : (within : Option ℕ) (now : ℕ) (h : HubState) (says : List Act) → says ≡ [] → IsTicking within now h 0 h says
-ticks_first within now h says none = record { work = begin h; hub = refl; did = sym none; rest = λ v t. t; same = refl; passed = tt; count = refl }
+pub ticks_first : (within : Option ℕ) (now : ℕ) (start : Work) (h : HubState) (says : List Act) → start.hub ≡ h → start.did ≡ says → IsTicking within now start 0 h says
+ticks_first within now start h says hub did = record {
+  work = start;
+  hub = hub;
+  did = did;
+  rest = λ v t. t;
+  same = ap (λ (a : HubState). places a.connections) (sym hub);
+  passed = tt;
+  count = ap (λ (a : HubState). length (places a.connections)) (sym hub);
+}
 
-module _ (within : Option ℕ) (now : ℕ) (old : HubState) (i : ℕ) (h : HubState) (says : List Act) (t : IsTicking within now old i h says) where
+module _ (within : Option ℕ) (now : ℕ) (start : Work) (i : ℕ) (h : HubState) (says : List Act) (t : IsTicking within now start i h says) where
   -- the connection at this index is as it was at the beginning
-  front : late_of within now (slice_get h.connections i) ≡ late_first within now (places (drop i old.connections))
+  front : late_of within now (slice_get h.connections i) ≡ late_first within now (places (drop i start.hub.connections))
   front =
-      late_there within now i h.connections ∙ ap (late_first within now) t.same ∙ ap (late_first within now) (drop-map place_of i old.connections)
+      late_there within now i h.connections ∙ ap (late_first within now) t.same ∙ ap (late_first within now) (drop-map place_of i start.hub.connections)
 
-  next_same : (g : HubState) → drop (i + 1) (places g.connections) ≡ drop (i + 1) (places h.connections) → drop (i + 1) (places g.connections) ≡ drop (i + 1) (places old.connections)
+  next_same : (g : HubState) → drop (i + 1) (places g.connections) ≡ drop (i + 1) (places h.connections) → drop (i + 1) (places g.connections) ≡ drop (i + 1) (places start.hub.connections)
   next_same g e =
       let more : (ps : List Place) → drop (i + 1) ps ≡ drop 1 (drop i ps) =
       λ ps. ap (λ (n : ℕ). drop n ps) (add-one i) ∙ drop_further i ps in
-      e ∙ more (places h.connections) ∙ ap (drop 1) t.same ∙ sym (more (places old.connections))
+      e ∙ more (places h.connections) ∙ ap (drop 1) t.same ∙ sym (more (places start.hub.connections))
 
   -- it is in time
-  pub ticks_past : None ≡ late_of within now (slice_get h.connections i) → IsTicking within now old (i + 1) h says
+  pub ticks_past : None ≡ late_of within now (slice_get h.connections i) → IsTicking within now start (i + 1) h says
   ticks_past none = record {
     work = t.work;
     hub = t.hub;
     did = t.did;
-    rest = λ v s. t.rest v (skip (drop i old.connections) refl (none ∙ front) v s);
+    rest = λ v s. t.rest v (skip (drop i start.hub.connections) refl (none ∙ front) v s);
     same = next_same h refl;
     passed =
         subst (λ (n : ℕ). AllInTime within now (take n (places h.connections))) (sym (add-one i)) (passed_one within now i (places h.connections) t.passed (none ∙ late_there within now i h.connections));
     count = t.count;
   }
     where
-      skip : (ys : List HubConnection) → drop i old.connections ≡ ys → None ≡ late_first within now (places ys) → (v : Work)
-          → Ticks within now (drop (i + 1) old.connections) t.work v → Ticks within now (drop i old.connections) t.work v
+      skip : (ys : List HubConnection) → drop i start.hub.connections ≡ ys → None ≡ late_first within now (places ys) → (v : Work)
+          → Ticks within now (drop (i + 1) start.hub.connections) t.work v → Ticks within now (drop i start.hub.connections) t.work v
       skip [] e is v s =
-          subst (λ (l : List HubConnection). Ticks within now l t.work v) (ap (λ (n : ℕ). drop n old.connections) (add-one i) ∙ drop_none i old.connections e ∙ sym e) s
+          subst (λ (l : List HubConnection). Ticks within now l t.work v) (ap (λ (n : ℕ). drop n start.hub.connections) (add-one i) ∙ drop_none i start.hub.connections e ∙ sym e) s
       skip (x ∷ ys) e is v s = go (late_at within now (place_of x)) refl
         where
-          go : (b : Bool) → late_at within now (place_of x) ≡ b → Ticks within now (drop i old.connections) t.work v
+          go : (b : Bool) → late_at within now (place_of x) ≡ b → Ticks within now (drop i start.hub.connections) t.work v
           go true late = let c = is ∙ cond-true (late_at within now (place_of x)) (Some (close_of (place_of x))) None late in absurd cc
           go false early =
               subst (λ (l : List HubConnection). Ticks within now l t.work v) (sym e)
               (InTime x ys t.work v (no_reason within now x.since x.stage early)
-              (subst (λ (l : List HubConnection). Ticks within now l t.work v) (ap (λ (n : ℕ). drop n old.connections) (add-one i) ∙ drop_next i old.connections ys x e) s))
+              (subst (λ (l : List HubConnection). Ticks within now l t.work v) (ap (λ (n : ℕ). drop n start.hub.connections) (add-one i) ∙ drop_next i start.hub.connections ys x e) s))
 
   module _ (k : Conn) (why : HubClose) (is : Some (k, why) ≡ late_of within now (slice_get h.connections i)) where
     -- the late connection, and those behind it
     record IsLate : Type 0 where
       pub line : HubConnection
       pub behind : List HubConnection
-      pub there : drop i old.connections ≡ line ∷ behind
+      pub there : drop i start.hub.connections ≡ line ∷ behind
       pub late : late_reason within now line.since line.stage ≡ Some why
       pub name : k ≡ line.conn
 
-    late_line : (ys : List HubConnection) → drop i old.connections ≡ ys → Some (k, why) ≡ late_first within now (places ys) → IsLate
+    late_line : (ys : List HubConnection) → drop i start.hub.connections ≡ ys → Some (k, why) ≡ late_first within now (places ys) → IsLate
     late_line [] e some = absurd cc
     late_line (x ∷ ys) e some = go (late_at within now (place_of x)) refl
       where
@@ -399,11 +412,11 @@ module _ (within : Option ℕ) (now : ℕ) (old : HubState) (i : ℕ) (h : HubSt
             let none : Some (k, why) ≡ None = some ∙ cond-false (late_at within now (place_of x)) (Some (close_of (place_of x))) None early in absurd cc
 
     first_late : IsLate
-    first_late = late_line (drop i old.connections) refl (is ∙ front)
+    first_late = late_line (drop i start.hub.connections) refl (is ∙ front)
 
     -- it is closed
     pub ticks_close : (g : HubState) (more : List Act) → knows k (drop (i + 1) h.connections) ≡ false
-        → (fits : Bool) × Refines (close k why fits) h says g more → IsTicking within now old (i + 1) g more
+        → (fits : Bool) × Refines (close k why fits) h says g more → IsTicking within now start (i + 1) g more
     ticks_close g more apart goes =
         let q = first_late in
         let w : Work = close k why goes.0 t.work in
@@ -418,7 +431,7 @@ module _ (within : Option ℕ) (now : ℕ) (old : HubState) (i : ℕ) (h : HubSt
           rest = λ v s. t.rest v (subst (λ (l : List HubConnection). Ticks within now l t.work v) (sym q.there)
               (Late q.line q.behind why goes.0 t.work v q.late
               (subst (λ (c : Conn). Ticks within now q.behind (close c why goes.0 t.work) v) q.name
-              (subst (λ (l : List HubConnection). Ticks within now l w v) (ap (λ (n : ℕ). drop n old.connections) (add-one i) ∙ drop_next i old.connections q.behind q.line q.there) s))));
+              (subst (λ (l : List HubConnection). Ticks within now l w v) (ap (λ (n : ℕ). drop n start.hub.connections) (add-one i) ∙ drop_next i start.hub.connections q.behind q.line q.there) s))));
           same = next_same g
               (ap (drop (i + 1)) placed ∙ drop-map (shut_at k) (i + 1) (places h.connections) ∙ ap (map (shut_at k)) (drop-map place_of (i + 1) h.connections)
               ∙ others k (drop (i + 1) h.connections) apart ∙ sym (drop-map place_of (i + 1) h.connections));
@@ -430,18 +443,17 @@ module _ (within : Option ℕ) (now : ℕ) (old : HubState) (i : ℕ) (h : HubSt
         }
 
   -- all are passed
-  pub ticks_all : length old.connections ≤ i → AreInTime within now h.connections
+  pub ticks_all : length start.hub.connections ≤ i → AreInTime within now h.connections
   ticks_all past =
       let many : length h.connections ≤ i =
-      omega (arith, past, length-map h.connections place_of, length-map old.connections place_of, t.count) in
+      omega (arith, past, length-map h.connections place_of, length-map start.hub.connections place_of, t.count) in
       all_passed within now i h.connections many t.passed
 
   -- none is left
-  pub ticks_last : within ≡ old.config.connect_within → length old.connections ≤ i → TicksTo now old h says
-  ticks_last limit past = record {
+  pub ticks_last : length start.hub.connections ≤ i → TicksFrom within now start h says
+  ticks_last past = record {
     work = t.work;
-    ticks = subst (λ (o : Option ℕ). Ticks o now old.connections (begin old) t.work) limit
-        (t.rest t.work (subst (λ (l : List HubConnection). Ticks within now l t.work t.work) (sym (drop_all i old.connections past)) (Done t.work)));
+    ticks = t.rest t.work (subst (λ (l : List HubConnection). Ticks within now l t.work t.work) (sym (drop_all i start.hub.connections past)) (Done t.work));
     hub = sym t.hub;
     did = sym t.did;
   }
@@ -461,39 +473,40 @@ StandsFrom places i j = (k : ℕ) × (i ≤ k) × (k < length places) × (get_or
 
 -- The positions before this one are done: the walk has come to some connection, and the late ones
 -- from there on are among the others.
-pub record IsClosing (within : Option ℕ) (now : ℕ) (old : HubState) (places : List ℕ) (i : ℕ) (h : HubState) (says : List Act) : Type 0 where
+pub record IsClosing (within : Option ℕ) (now : ℕ) (start : Work) (places : List ℕ) (i : ℕ) (h : HubState) (says : List Act) : Type 0 where
   pub at : ℕ
-  pub ticking : IsTicking within now old at h says
-  pub rest : (j : ℕ) (x : HubConnection) → at ≤ j → slice_get old.connections j ≡ Some x → late_at within now (place_of x) ≡ true → StandsFrom places i j
+  pub ticking : IsTicking within now start at h says
+  pub rest : (j : ℕ) (x : HubConnection) → at ≤ j → slice_get start.hub.connections j ≡ Some x → late_at within now (place_of x) ≡ true → StandsFrom places i j
 
-pub closing_first : (within : Option ℕ) (now : ℕ) (h : HubState) (places : List ℕ) (says : List Act) → HasLate within now h.connections places → says ≡ [] → IsClosing within now h places 0 h says
-closing_first within now h places says all none = record {
+pub closing_first : (within : Option ℕ) (now : ℕ) (start : Work) (h : HubState) (places : List ℕ) (says : List Act) → HasLate within now h.connections places
+    → start.hub ≡ h → start.did ≡ says → IsClosing within now start places 0 h says
+closing_first within now start h places says late hub did = record {
   at = 0;
-  ticking = ticks_first within now h says none;
-  rest = λ j x from there late. let c = all j x there late in (c.0, omega arith, c.1, c.2);
+  ticking = ticks_first within now start h says hub did;
+  rest = λ j x from there on. let c = subst (λ (a : HubState). HasLate within now a.connections places) (sym hub) late j x there on in (c.0, omega arith, c.1, c.2);
 }
 
-module _ (within : Option ℕ) (now : ℕ) (old h : HubState) (says : List Act) where
+module _ (within : Option ℕ) (now : ℕ) (start : Work) (h : HubState) (says : List Act) where
   -- none is late for a while
-  skip_some : (n at : ℕ) → IsTicking within now old at h says → ((j : ℕ) → at ≤ j → j < at + n → None ≡ late_of within now (slice_get h.connections j)) → IsTicking within now old (at + n) h says
-  skip_some zero at t none = subst (λ (n : ℕ). IsTicking within now old n h says) (sym (add-zero at)) t
+  skip_some : (n at : ℕ) → IsTicking within now start at h says → ((j : ℕ) → at ≤ j → j < at + n → None ≡ late_of within now (slice_get h.connections j)) → IsTicking within now start (at + n) h says
+  skip_some zero at t none = subst (λ (n : ℕ). IsTicking within now start n h says) (sym (add-zero at)) t
   skip_some (suc n) at t none =
       let e : (at + 1) + n ≡ at + suc n = omega arith in
-      subst (λ (m : ℕ). IsTicking within now old m h says) e
-      (skip_some n (at + 1) (ticks_past within now old at h says t (none at (omega arith) (omega arith))) (λ j from to. none j (omega (arith, from)) (omega (arith, to))))
+      subst (λ (m : ℕ). IsTicking within now start m h says) e
+      (skip_some n (at + 1) (ticks_past within now start at h says t (none at (omega arith) (omega arith))) (λ j from to. none j (omega (arith, from)) (omega (arith, to))))
 
-  module _ (at : ℕ) (t : IsTicking within now old at h says) where
-    as_before : (j : ℕ) → at ≤ j → late_of within now (slice_get h.connections j) ≡ late_of within now (slice_get old.connections j)
+  module _ (at : ℕ) (t : IsTicking within now start at h says) where
+    as_before : (j : ℕ) → at ≤ j → late_of within now (slice_get h.connections j) ≡ late_of within now (slice_get start.hub.connections j)
     as_before j from =
         let e : at + (j - at) ≡ j = omega (arith, from) in
         late_there within now j h.connections
-        ∙ ap (late_first within now) (subst (λ (n : ℕ). drop n (places h.connections) ≡ drop n (places old.connections)) e (drop_on at (j - at) (places h.connections) (places old.connections) t.same))
-        ∙ sym (late_there within now j old.connections)
+        ∙ ap (late_first within now) (subst (λ (n : ℕ). drop n (places h.connections) ≡ drop n (places start.hub.connections)) e (drop_on at (j - at) (places h.connections) (places start.hub.connections) t.same))
+        ∙ sym (late_there within now j start.hub.connections)
 
-    none_at : (j : ℕ) → at ≤ j → ((x : HubConnection) → slice_get old.connections j ≡ Some x → late_at within now (place_of x) ≡ true → ⊥) → None ≡ late_of within now (slice_get h.connections j)
-    none_at j from never = sym (as_before j from ∙ go (slice_get old.connections j) refl)
+    none_at : (j : ℕ) → at ≤ j → ((x : HubConnection) → slice_get start.hub.connections j ≡ Some x → late_at within now (place_of x) ≡ true → ⊥) → None ≡ late_of within now (slice_get h.connections j)
+    none_at j from never = sym (as_before j from ∙ go (slice_get start.hub.connections j) refl)
       where
-        go : (o : Option HubConnection) → slice_get old.connections j ≡ o → late_of within now o ≡ None
+        go : (o : Option HubConnection) → slice_get start.hub.connections j ≡ o → late_of within now o ≡ None
         go None e = refl
         go (Some x) e = early (late_at within now (place_of x)) refl
           where
@@ -509,7 +522,7 @@ passed_none within now (suc i) zero (p ∷ ps) less all = cond-false (late_at wi
 passed_none within now (suc i) (suc j) [] less all = refl
 passed_none within now (suc i) (suc j) (p ∷ ps) less all = passed_none within now i j ps (omega (arith, less)) all.1
 
-module _ (within : Option ℕ) (now : ℕ) (old : HubState) (ps : List ℕ) (i : ℕ) (h : HubState) (says : List Act) (t : IsClosing within now old ps i h says) where
+module _ (within : Option ℕ) (now : ℕ) (start : Work) (ps : List ℕ) (i : ℕ) (h : HubState) (says : List Act) (t : IsClosing within now start ps i h says) where
   module _ (p : ℕ) (inside : i < length ps) (is : p ≡ get_or ps i p) where
     -- one at this position, or behind
     behind : (j : ℕ) → StandsFrom ps i j → (p ≡ j → ⊥) → StandsFrom ps (i + 1) j
@@ -522,14 +535,14 @@ module _ (within : Option ℕ) (now : ℕ) (old : HubState) (ps : List ℕ) (i :
             absurd (other (is ∙ get_or_default ps i p j inside ∙ ap (λ (n : ℕ). get_or ps n j) (sym same) ∙ s.3))
 
     -- it isn't late, or was closed
-    pub closing_past : None ≡ late_of within now (slice_get h.connections p) → IsClosing within now old ps (i + 1) h says
+    pub closing_past : None ≡ late_of within now (slice_get h.connections p) → IsClosing within now start ps (i + 1) h says
     closing_past none = record {
       at = t.at;
       ticking = t.ticking;
       rest = λ j x from there late. behind j (t.rest j x from there late) (λ e.
-          let was : late_of within now (slice_get old.connections j) ≡ None =
-          sym (as_before within now old h says t.at t.ticking j from) ∙ ap (λ (n : ℕ). late_of within now (slice_get h.connections n)) (sym e) ∙ sym none in
-          let now_late : late_of within now (slice_get old.connections j) ≡ Some (close_of (place_of x)) = ap (late_of within now) there ∙ cond-true (late_at within now (place_of x)) (Some (close_of (place_of x))) None late in
+          let was : late_of within now (slice_get start.hub.connections j) ≡ None =
+          sym (as_before within now start h says t.at t.ticking j from) ∙ ap (λ (n : ℕ). late_of within now (slice_get h.connections n)) (sym e) ∙ sym none in
+          let now_late : late_of within now (slice_get start.hub.connections j) ≡ Some (close_of (place_of x)) = ap (late_of within now) there ∙ cond-true (late_at within now (place_of x)) (Some (close_of (place_of x))) None late in
           let no : None ≡ Some (close_of (place_of x)) = sym was ∙ now_late in absurd cc);
     }
 
@@ -546,12 +559,12 @@ module _ (within : Option ℕ) (now : ℕ) (old : HubState) (ps : List ℕ) (i :
           go false not = ltb-false p t.at not
 
       -- and comes to it
-      comes_to : IsTicking within now old p h says
+      comes_to : IsTicking within now start p h says
       comes_to =
           let e : t.at + (p - t.at) ≡ p = omega (arith, ahead) in
-          subst (λ (n : ℕ). IsTicking within now old n h says) e
-          (skip_some within now old h says (p - t.at) t.at t.ticking
-          (λ j from to. none_at within now old h says t.at t.ticking j from (λ x there on.
+          subst (λ (n : ℕ). IsTicking within now start n h says) e
+          (skip_some within now start h says (p - t.at) t.at t.ticking
+          (λ j from to. none_at within now start h says t.at t.ticking j from (λ x there on.
           let s = t.rest j x from there on in
           let up : get_or ps i j ≤ get_or ps s.0 j = ascending i s.0 j s.1 s.2 in
           let own : p ≡ get_or ps i j = is ∙ get_or_default ps i p j inside in
@@ -559,21 +572,21 @@ module _ (within : Option ℕ) (now : ℕ) (old : HubState) (ps : List ℕ) (i :
           absurd (omega (arith, up, own, less, s.3)))))
 
       pub closing_late : (g : HubState) (more : List Act) → knows k (drop (p + 1) h.connections) ≡ false
-          → (fits : Bool) × Refines (close k why fits) h says g more → IsClosing within now old ps (i + 1) g more
+          → (fits : Bool) × Refines (close k why fits) h says g more → IsClosing within now start ps (i + 1) g more
       closing_late g more apart goes = record {
         at = p + 1;
-        ticking = ticks_close within now old p h says comes_to k why late g more apart goes;
+        ticking = ticks_close within now start p h says comes_to k why late g more apart goes;
         rest = λ j x from there on. behind j (t.rest j x (omega (arith, from, ahead)) there on) (λ e. absurd (omega (arith, from, e)));
       }
 
   module _ (past : length ps ≤ i) where
-    done : IsTicking within now old (t.at + length old.connections) h says
-    done = skip_some within now old h says (length old.connections) t.at t.ticking
-        (λ j from to. none_at within now old h says t.at t.ticking j from (λ x there late.
+    done : IsTicking within now start (t.at + length start.hub.connections) h says
+    done = skip_some within now start h says (length start.hub.connections) t.at t.ticking
+        (λ j from to. none_at within now start h says t.at t.ticking j from (λ x there late.
         let s = t.rest j x from there late in absurd (omega (arith, past, s.1, s.2))))
 
     pub closing_all : AreInTime within now h.connections
-    closing_all = ticks_all within now old (t.at + length old.connections) h says done (omega arith)
+    closing_all = ticks_all within now start (t.at + length start.hub.connections) h says done (omega arith)
 
-    pub closing_last : within ≡ old.config.connect_within → TicksTo now old h says
-    closing_last limit = ticks_last within now old (t.at + length old.connections) h says done limit (omega arith)
+    pub closing_last : TicksFrom within now start h says
+    closing_last = ticks_last within now start (t.at + length start.hub.connections) h says done (omega arith)

@@ -57,3 +57,8 @@ pub mod LateWalk
 pub mod RunLemmas
 pub mod PendingBytes
 pub mod MissedCopies
+pub mod DisconnectTimes
+pub mod ExpiredSessions
+pub mod Spaces
+pub mod FittingMessages
+pub mod PendingLengths

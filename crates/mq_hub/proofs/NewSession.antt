@@ -126,11 +126,11 @@ no_session false = refl
 -- ---- the broker
 
 module _ (k : Conn) (c : Connect) (client : List ℕ) (named : is_anonymous c ≡ false) (config : HubConfig) (clock next : ℕ) (t u : HubTables) (kept : HubInvariant config next t)
-    (at : stage_of k t.connections.connections ≡ AwaitingConnect) (own : BrokerSession) (e : EndState) (is : own ≡ record { client = client; key = next; end = connected_end c clock e }) (fresh : e.end ≡ new_end config)
+    (at : stage_of k t.connections.connections ≡ AwaitingConnect) (own : BrokerSession) (e : EndState) (is : own ≡ record { client = client; key = next; end = connected_end c clock e; left_at = clock }) (fresh : e.end ≡ new_end config)
     (rows : u.rows ≡ t.rows) (retained : u.retained.messages ≡ t.retained.messages) (list : u.sessions.list ≡ t.sessions.list ++ own ∷ [])
     (connections : u.connections.connections ≡ with_connection (λ x. record x { stage = stage_by next c clock }) k t.connections.connections) where
   abbrev new : BrokerSession
-  new = record { client = client; key = next; end = connected_end c clock e }
+  new = record { client = client; key = next; end = connected_end c clock e; left_at = clock }
 
   abbrev risen_line : HubConnection → HubConnection
   risen_line x = record x { stage = stage_by next c clock }
@@ -174,7 +174,7 @@ module _ (k : Conn) (c : Connect) (client : List ℕ) (named : is_anonymous c �
 
   hub_begun : hub_of config clock (next + 1) u ≡ record (hub_of config clock next t) {
     next_key = next + 1;
-    sessions = sessions_of t.sessions.list ++ record { client = client; key = next; end = (greeting c (new_end config)).end } ∷ [];
+    sessions = sessions_of t.sessions.list ++ record { client = client; key = next; end = (greeting c (new_end config)).end; left = clock } ∷ [];
     connections = with_connection (grown (encodings (greeting c (new_end config)).out)) k (with_connection risen_line k (all_seen t.sessions.list t.connections.connections));
   }
   hub_begun =
@@ -206,7 +206,7 @@ module _ (k : Conn) (c : Connect) (client : List ℕ) (named : is_anonymous c �
       seen_so
       ∙ ap (λ (d : End). record (hub_of config clock next t) {
         next_key = next + 1;
-        sessions = sessions_of ts ++ record { client = client; key = next; end = (greeting c d).end } ∷ [];
+        sessions = sessions_of ts ++ record { client = client; key = next; end = (greeting c d).end; left = clock } ∷ [];
         connections = with_connection (grown (encodings (greeting c d).out)) k (with_connection risen_line k (all_seen ts xs));
       }) fresh
 
@@ -216,7 +216,7 @@ module _ (k : Conn) (c : Connect) (client : List ℕ) (named : is_anonymous c �
       let ts = t.sessions.list in
       let xs = t.connections.connections in
       let h = hub_of config clock next t in
-      let s : HubSession = record { client = client; key = next; end = new_end config } in
+      let s : HubSession = record { client = client; key = next; end = new_end config; left = clock } in
       let m : HubState = record h { next_key = next + 1; sessions = sessions_of ts ++ s ∷ [] } in
       let apart = apart_same (seen ts) (λ x. refl) (λ x. refl) xs kept.apart in
       let none : up_on next m.connections ≡ None = up_seen next ts xs ∙ nobody in
@@ -237,6 +237,6 @@ module _ (k : Conn) (c : Connect) (client : List ℕ) (named : is_anonymous c �
       (goes_then (new_session client) (resume_session k c next) h m (hub_of config clock (next + 1) u) did did says
       (goes_to (new_session client) h m did (λ w e. ap (λ (a : HubState). record a {
         next_key = a.next_key + 1;
-        sessions = a.sessions ++ record { client = client; key = a.next_key; end = new_end a.config } ∷ [];
+        sessions = a.sessions ++ record { client = client; key = a.next_key; end = new_end a.config; left = a.clock } ∷ [];
       }) e) (λ w. refl))
       (subst (λ (g : HubState). Refines (resume_session k c next) m did g says) after (goes_greeted k c next named m did apart none first false present)))

@@ -1,12 +1,16 @@
 -- A PUBLISH of a connected client whose message is new.
-use Rattle.std.proofs.Common.{◌≡◌, ℕ, ◌+◌, ◌≤◌, Bool, true, false, cond, List, [], ◌∷◌, Option, Some, None, Ok}
-use Rattle.std.proofs.Common.{arith, refl, sym, ap, subst, ◌∙◌, eqb, eqb-true, true≢false}
+use Rattle.std.proofs.Common.{◌≡◌, ℕ, ◌+◌, ◌≤◌, Bool, true, false, cond, List, [], ◌∷◌, length, Option, Some, None, Ok}
+use Rattle.std.proofs.Common.{arith, refl, sym, ap, subst, ◌∙◌, eqb, eqb-true, eq-eqb, true≢false, zero-add}
+use Rattle.std.proofs.lemmas.Bool.{cond-true, cond-false, ne_eqb}
+use Rattle.std.proofs.lemmas.List.{length-append}
+use Rattle.mq_wire.specs.Length.{length_bytes}
 use Rattle.mq_topic.specs.declared.qos.Qos.{Qos}
 use Rattle.mq_topic.specs.declared.qos.Qos.TheVariants.{Q0, Q1, Q2}
 use Rattle.mq_decode.specs.Limits.{Bounds}
 use Rattle.mq_packet.specs.declared.message.Message.{Message}
 use Rattle.mq_packet.specs.declared.publish.Delivery.{Delivery}
 use Rattle.mq_packet.specs.declared.packet.Packet.TheVariants as packets
+use Rattle.mq_packet.specs.Encoding.{encoded_size, encodings}
 use Rattle.mq_packet.specs.Publication.{Publication}
 use Rattle.mq_end.specs.declared.packet_outcome.PacketOutcome.{PacketOutcome}
 use Rattle.mq_end.specs.declared.reason.CloseReason.TheVariants as reasons
@@ -22,10 +26,14 @@ use Rattle.mq_route.specs.Hub.{end_of}
 use Rattle.mq_hub.specs.declared.sessions.call.Call.TheVariants.{Takes}
 use Rattle.mq_hub.specs.declared.sessions.session.BrokerSession.{BrokerSession}
 use Rattle.mq_hub.specs.Inside.Calls.{CanServe, Serves, ServesAt}
-use Rattle.mq_hub.specs.Inside.Placement.{AreReady, HaveSameBooks, IsReady, IsReadyAt}
+use Rattle.mq_hub.specs.Inside.Placement.{AreReady, HaveQueued, HaveSameBooks, IsReady, IsReadyAt}
+use Rattle.mq_hub.specs.Inside.Rules.{answer_for, publish_answer}
 use Rattle.mq_hub.specs.Inside.Sessions.{sessions_of, session_at, with_server}
+use Rattle.mq_hub.specs.Inside.View.{output_of}
 use Rattle.mq_hub.proofs.SessionRoom.{changed_other, changed_own, end_changed, some_same}
 use Rattle.mq_hub.proofs.EndReplies.{end_there, gets_up, packet_stays}
+use Rattle.mq_hub.proofs.PlacedCopies.{output_changed, output_own}
+use Rattle.mq_hub.proofs.Spaces.{frame_bytes}
 
 some_none : {X : Type 0} {x : X} → Some x ≡ None → ⊥
 some_none e = absurd cc
@@ -63,6 +71,29 @@ publish_out Q2 (Some d) m e lives = go (fits_window e.window d.id e.received) li
     go true lives = omega arith
     go false lives = absurd (some_none lives)
 
+acknowledgement : encoded_size 2 ≡ 4
+unfolding length_bytes
+acknowledgement = refl
+
+-- and has this number of bytes
+publish_sends : (q : Qos) (d : Option Delivery) (m : Message) (e : End) (key : ℕ) → (publish_gets q d m e).close ≡ None
+    → length (encodings (publish_gets q d m e).out) ≡ (publish_answer key d).bytes
+publish_sends Q0 None m e key lives = refl
+publish_sends Q0 (Some d) m e key lives = absurd (some_none lives)
+publish_sends Q1 None m e key lives = absurd (some_none lives)
+publish_sends Q1 (Some d) m e key lives = frame_bytes (packets.PubAck d.id) ∙ acknowledgement
+publish_sends Q2 None m e key lives = absurd (some_none lives)
+publish_sends Q2 (Some d) m e key lives = go (fits_window e.window d.id e.received) lives
+  where
+    go : (b : Bool) → (cond b (stores d.id m e) (closes reasons.Window e)).close ≡ None
+        → length (encodings (cond b (stores d.id m e) (closes reasons.Window e)).out) ≡ 4
+    go true lives = frame_bytes (packets.PubRec d.id) ∙ acknowledgement
+    go false lives = absurd (some_none lives)
+
+answer_is : (d : Option Delivery) (key k : ℕ) → answer_for (Some (publish_answer key d)) k ≡ cond (eqb key k) (publish_answer key d).bytes 0
+answer_is None key k = refl
+answer_is (Some d) key k = refl
+
 -- ---- an end with room for the answer keeps its other room
 
 room_less : (ms : List Message) (n k : ℕ) (s : EndState) → n ≤ k → HasRoom ms k s → HasRoom ms n s
@@ -82,6 +113,13 @@ module _ (now : ℕ) (p : Publication) (o : PacketOutcome) (old new : EndState) 
   same_book =
       ap (λ (x : End). x.book) serves.ok.replies.end
       ∙ ap (λ (r : Reply). r.end.book) (gets_up (packets.Publish p) old.end up) ∙ publish_book p.message.qos p.delivery p.message old.end lives_up
+
+  sent_answer : (key : ℕ) → length new.output ≡ (publish_answer key p.delivery).bytes + length old.output
+  sent_answer key =
+      let r = server_gets (packets.Publish p) old.end in
+      let total = ap (λ (b : List ℕ). length b) serves.ok.replies.output ∙ length-append old.output (encodings r.out) in
+      let sent = ap (λ (r : Reply). length (encodings r.out)) (gets_up (packets.Publish p) old.end up) ∙ publish_sends p.message.qos p.delivery p.message old.end key lives_up in
+      omega (arith, total, sent)
 
   still_ready : (ms : List Message) → IsReady ms 7 old → IsReady ms 0 new
   still_ready ms ready =
@@ -147,3 +185,25 @@ module _ (key now : ℕ) (p : Publication) (o : PacketOutcome) (ts us : List Bro
           ∙ same_book now p o at.session.end at.end up_there lives_there at.serves
           ∙ ap (λ (x : End). x.book) (sym (end_there key at.session ts at.there)))
       go false e = ap (λ (x : End). x.book) (end_changed (λ s. at.end) key k ts e)
+
+  pub queued : HaveQueued (Some (publish_answer key p.delivery)) ts us
+  queued k =
+      ap (λ (xs : List BrokerSession). length (output_of k xs)) at.after ∙ go (eqb key k) refl
+      ∙ ap (λ (n : ℕ). n + length (output_of k ts)) (sym (answer_is p.delivery key k))
+    where
+      own : length (output_of key (with_server key at.end ts)) ≡ (publish_answer key p.delivery).bytes + length (output_of key ts)
+      own =
+          let there = changed_own (λ s. at.end) key at.session ts at.there in
+          ap (λ (b : List ℕ). length b) (output_own key (record at.session { end = at.end }) (with_server key at.end ts) there)
+          ∙ sent_answer now p o at.session.end at.end up_there lives_there at.serves key
+          ∙ ap (λ (b : List ℕ). (publish_answer key p.delivery).bytes + length b) (sym (output_own key at.session ts at.there))
+
+      go : (b : Bool) → eqb key k ≡ b → length (output_of k (with_server key at.end ts)) ≡ cond (eqb key k) (publish_answer key p.delivery).bytes 0 + length (output_of k ts)
+      go true e =
+          subst (λ (n : ℕ). length (output_of n (with_server key at.end ts)) ≡ (publish_answer key p.delivery).bytes + length (output_of n ts)) (eqb-true key k e) own
+          ∙ ap (λ (n : ℕ). n + length (output_of k ts)) (sym (cond-true (eqb key k) (publish_answer key p.delivery).bytes 0 e))
+      go false e =
+          let apart : eqb k key ≡ false = ne_eqb k key (λ same. true≢false (sym (eq-eqb key k (sym same)) ∙ e)) in
+          ap (λ (b : List ℕ). length b) (output_changed (λ s. at.end) key k ts apart)
+          ∙ sym (zero-add (length (output_of k ts)))
+          ∙ ap (λ (n : ℕ). n + length (output_of k ts)) (sym (cond-false (eqb key k) (publish_answer key p.delivery).bytes 0 e))

@@ -97,8 +97,8 @@ module _ (config : HubConfig) (events : List HubEvent) (hub : HubState) (trace :
   pub run_settles : RoutingLaws → (c : ℕ) → settled c (acts_in trace) ≡ routed c (acts_in trace)
   run_settles laws c = subst (λ (log : List Act). settled c log ≡ routed c log) acts_traced (laws.settled_is_routed config run.episodes hub run.follows c)
 
-  pub run_routes : RoutingLaws → config.when_full ≡ ClosePublisher → (c : ℕ) → placed c (acts_in trace) ≡ routed c (acts_in trace)
-  run_routes laws closes c = subst (λ (log : List Act). placed c log ≡ routed c log) acts_traced (laws.placed_is_routed config closes run.episodes hub run.follows c)
+  pub run_routes : RoutingLaws → config.when_full ≡ ClosePublisher → config.most_waiting ≡ None → (c : ℕ) → placed c (acts_in trace) ≡ routed c (acts_in trace)
+  run_routes laws closes unlimited c = subst (λ (log : List Act). placed c log ≡ routed c log) acts_traced (laws.placed_is_routed config closes unlimited run.episodes hub run.follows c)
 
   pub run_takes : TakingLaws → (c : ℕ) → taken c (acts_in trace) ≡ handed_from none_received (of_client c (came_in run.episodes))
   run_takes laws c = ap (taken c) (sym acts_traced) ∙ laws.taken_is_handed config run.episodes hub run.follows c

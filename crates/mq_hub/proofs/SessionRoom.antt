@@ -1,22 +1,24 @@
 -- Room for messages in the ends of sessions.
-use Rattle.std.proofs.Common.{◌≡◌, ℕ, zero, suc, ◌+◌, ◌-◌, ◌<◌, ◌≤◌, Bool, true, false, cond, not, ◌&&◌, ◌||◌, List, [], ◌∷◌, ◌++◌, map, filter, length, take, drop, get_or, Option, Some, None, IfSome, IfNone, Result, Ok, Err, OnOk, IfErr, refl, sym, ap, ap₂, subst, ◌∙◌, arith, eqb, ltb, nat_le, eqb-true, eq-eqb, ltb-true, ltb-false, true≢false, zero-add}
+use Rattle.std.proofs.Common.{◌≡◌, ℕ, zero, suc, ◌+◌, ◌-◌, ◌<◌, ◌≤◌, Bool, true, false, cond, not, ◌&&◌, ◌||◌, List, [], ◌∷◌, ◌++◌, map, filter, length, take, drop, get_or, Option, Some, None, IfSome, Result, Ok, Err, OnOk, refl, sym, ap, ap₂, subst, ◌∙◌, arith, eqb, nat_le, eqb-true, eq-eqb, true≢false, zero-add}
 use Rattle.std.specs.Prelude.{⊤}
-use Rattle.std.proofs.lemmas.Bool.{cond-true, cond-false, ne_eqb, le-leb, lt-leb}
-use Rattle.std.proofs.lemmas.List.Sums.{sum_by-append}
-use Rattle.std.specs.List.{AllByRecursion, list_all, list_any}
+use Rattle.std.proofs.lemmas.Bool.{cond-true, cond-false, ne_eqb, le-leb}
+use Rattle.std.proofs.lemmas.List.Sums.{sum_by-cons}
+use Rattle.std.specs.List.{AllByRecursion, list_all, sum_by}
 use Rattle.mq_packet.specs.declared.message.Message.{Message}
 use Rattle.mq_flow.specs.Sender.{uses}
+use Rattle.mq_flow.specs.Stored.{message_bytes, stored_bytes}
 use Rattle.mq_end.specs.declared.refusal.PublishRefusal.{PublishRefusal}
-use Rattle.mq_end.specs.declared.refusal.PublishRefusal.TheVariants as refusals
 use Rattle.mq_end.specs.Both.{has_identifier}
 use Rattle.mq_end.specs.End.{End, is_up}
 use Rattle.mq_end.specs.Ready.{HasRoom}
 use Rattle.mq_end.specs.Server.{ready_refusal}
 use Rattle.mq_end.specs.Sizes.{publish_size}
 use Rattle.mq_end.specs.State.{EndState, Room}
+use Rattle.mq_route.specs.declared.config.HubConfig.{HubConfig}
 use Rattle.mq_route.specs.Hub.{HubState, HubSession, end_of, for_key}
-use Rattle.mq_route.specs.Work.{all_fit, drops_copies, have_room, needs}
+use Rattle.mq_route.specs.Work.{all_fit, drops_copies, fits_in, have_room, leaves, needed_bytes, needs}
 use Rattle.mq_hub.specs.declared.sessions.session.BrokerSession.{BrokerSession}
+use Rattle.mq_hub.specs.Inside.Rules.{bytes_of, fits_left, has_room, left_of}
 use Rattle.mq_hub.specs.Inside.Sessions.{AreAscending, sessions_of, session_of, session_at, with_server}
 use Rattle.mq_hub.specs.Inside.Placement.{AreApart, AreFor, AreReady, AreSameButRoom, AreStillReady, HasSessions, IsFor, IsReadyAt, MayGo, ReadiesAt, is_among, placed_at, published, roomless}
 
@@ -39,81 +41,113 @@ or_right false b e = e
 abbrev pub count : List Message → ℕ
 count ms = length (filter (λ m. has_identifier m.qos) ms)
 
-needs_cons : (k : ℕ) (x : ℕ × Message) (xs : List (ℕ × Message)) → needs k (x ∷ xs) ≡ cond (eqb x.0 k && has_identifier x.1.qos) 1 0 + needs k xs
-needs_cons k x xs =
-    let parts = sum_by-append (λ c. cond (eqb c.0 k && has_identifier c.1.qos) 1 0) (x ∷ []) xs in
-    parts ∙ ap (λ (n : ℕ). n + needs k xs) (zero-add (cond (eqb x.0 k && has_identifier x.1.qos) 1 0))
+-- the sum of a measure over messages of QoS 1 and 2
+abbrev total : (Message → ℕ) → List Message → ℕ
+total w ms = sum_by (λ m. cond (has_identifier m.qos) (w m) 0) ms
 
-none_needs : (key : ℕ) (cs : List (ℕ × Message)) → is_among key cs ≡ false → needs key cs ≡ 0
-none_needs key [] none = refl
-none_needs key (c ∷ cs) none =
-    needs_cons key c cs
-    ∙ ap (λ (b : Bool). cond (b && has_identifier c.1.qos) 1 0 + needs key cs) (or_left (eqb c.0 key) (is_among key cs) none)
-    ∙ zero-add (needs key cs) ∙ none_needs key cs (or_right (eqb c.0 key) (is_among key cs) none)
+-- the same, over the copies for a client
+abbrev weighed : (Message → ℕ) → ℕ → List (ℕ × Message) → ℕ
+weighed w key cs = sum_by (λ x. cond (eqb x.0 key && has_identifier x.1.qos) (w x.1) 0) cs
 
-own_needs : (key : ℕ) (ms : List Message) (cs : List (ℕ × Message)) → is_among key cs ≡ false → needs key (for_key key ms ++ cs) ≡ count ms
-own_needs key [] cs none = none_needs key cs none
-own_needs key (m ∷ ms) cs none =
-    needs_cons key (key, m) (for_key key ms ++ cs)
-    ∙ ap (λ (b : Bool). cond (b && has_identifier m.qos) 1 0 + needs key (for_key key ms ++ cs)) (eq-eqb key key refl)
-    ∙ go (has_identifier m.qos) (own_needs key ms cs none)
+weighed_cons : (w : Message → ℕ) (k : ℕ) (x : ℕ × Message) (xs : List (ℕ × Message)) → weighed w k (x ∷ xs) ≡ cond (eqb x.0 k && has_identifier x.1.qos) (w x.1) 0 + weighed w k xs
+weighed_cons w k x xs = sum_by-cons (λ c. cond (eqb c.0 k && has_identifier c.1.qos) (w c.1) 0) x xs
+
+none_weighed : (w : Message → ℕ) (key : ℕ) (cs : List (ℕ × Message)) → is_among key cs ≡ false → weighed w key cs ≡ 0
+none_weighed w key [] none = refl
+none_weighed w key (c ∷ cs) none =
+    weighed_cons w key c cs
+    ∙ ap (λ (b : Bool). cond (b && has_identifier c.1.qos) (w c.1) 0 + weighed w key cs) (or_left (eqb c.0 key) (is_among key cs) none)
+    ∙ zero-add (weighed w key cs) ∙ none_weighed w key cs (or_right (eqb c.0 key) (is_among key cs) none)
+
+own_weighed : (w : Message → ℕ) (key : ℕ) (ms : List Message) (cs : List (ℕ × Message)) → is_among key cs ≡ false → weighed w key (for_key key ms ++ cs) ≡ total w ms
+own_weighed w key [] cs none = none_weighed w key cs none
+own_weighed w key (m ∷ ms) cs none =
+    weighed_cons w key (key, m) (for_key key ms ++ cs)
+    ∙ ap (λ (b : Bool). cond (b && has_identifier m.qos) (w m) 0 + weighed w key (for_key key ms ++ cs)) (eq-eqb key key refl)
+    ∙ ap (λ (n : ℕ). cond (has_identifier m.qos) (w m) 0 + n) (own_weighed w key ms cs none)
+    ∙ sym (sum_by-cons (λ x. cond (has_identifier x.qos) (w x) 0) m ms)
+
+other_weighed : (w : Message → ℕ) (k key : ℕ) (ms : List Message) (cs : List (ℕ × Message)) → eqb key k ≡ false → weighed w k (for_key key ms ++ cs) ≡ weighed w k cs
+other_weighed w k key [] cs apart = refl
+other_weighed w k key (m ∷ ms) cs apart =
+    weighed_cons w k (key, m) (for_key key ms ++ cs)
+    ∙ ap (λ (b : Bool). cond (b && has_identifier m.qos) (w m) 0 + weighed w k (for_key key ms ++ cs)) apart
+    ∙ zero-add (weighed w k (for_key key ms ++ cs)) ∙ other_weighed w k key ms cs apart
+
+counted : (ms : List Message) → total (λ m. 1) ms ≡ count ms
+counted [] = refl
+counted (m ∷ ms) = sum_by-cons (λ x. cond (has_identifier x.qos) 1 0) m ms ∙ go (has_identifier m.qos) (counted ms)
   where
-    go : (b : Bool) → needs key (for_key key ms ++ cs) ≡ count ms
-        → cond b 1 0 + needs key (for_key key ms ++ cs) ≡ length (cond b (m ∷ filter (λ m. has_identifier m.qos) ms) (filter (λ m. has_identifier m.qos) ms))
+    go : (b : Bool) → total (λ x. 1) ms ≡ count ms
+        → cond b 1 0 + total (λ x. 1) ms ≡ length (cond b (m ∷ filter (λ x. has_identifier x.qos) ms) (filter (λ x. has_identifier x.qos) ms))
     go true e = omega arith
-    go false e = zero-add (needs key (for_key key ms ++ cs)) ∙ e
-
-other_needs : (k key : ℕ) (ms : List Message) (cs : List (ℕ × Message)) → eqb key k ≡ false → needs k (for_key key ms ++ cs) ≡ needs k cs
-other_needs k key [] cs apart = refl
-other_needs k key (m ∷ ms) cs apart =
-    needs_cons k (key, m) (for_key key ms ++ cs)
-    ∙ ap (λ (b : Bool). cond (b && has_identifier m.qos) 1 0 + needs k (for_key key ms ++ cs)) apart
-    ∙ zero-add (needs k (for_key key ms ++ cs)) ∙ other_needs k key ms cs apart
+    go false e = zero-add (total (λ x. 1) ms) ∙ e
 
 -- ---- whether the sessions have room
 
-abbrev room_of : ℕ → List (ℕ × Message) → List BrokerSession → Bool
-room_of cap cs ts = list_all (λ s. nat_le (needs s.key cs) (cap - length (uses s.end.book))) (sessions_of ts)
+abbrev room_of : HubConfig → List (ℕ × Message) → List BrokerSession → Bool
+room_of config cs ts = list_all (fits_in config cs) (sessions_of ts)
 
--- the sessions of a key have this number of free identifiers
-abbrev AreFree : ℕ → ℕ → ℕ → List BrokerSession → Type 0
-AreFree key n cap ts = AllByRecursion (λ s. s.key ≡ key → n ≤ cap - length (uses s.end.end.book)) ts
+-- a session has this number of identifiers free, and may store this number of bytes
+abbrev fits_by : HubConfig → End → ℕ → ℕ → Bool
+fits_by config e n bytes = nat_le n (config.capacity - length (uses e.book)) && leaves config.most_stored (stored_bytes e.book) bytes
 
-with_own : (key : ℕ) (ms : List Message) (cs : List (ℕ × Message)) (cap : ℕ) (ts : List BrokerSession) → is_among key cs ≡ false → AreFree key (count ms) cap ts
-    → room_of cap (for_key key ms ++ cs) ts ≡ room_of cap cs ts
-with_own key ms cs cap [] none free = refl
-with_own key ms cs cap (t ∷ ts) none free = ap₂ (λ (a b : Bool). a && b) (go (eqb key t.key) refl) (with_own key ms cs cap ts none free.1)
+-- a session has room for these messages
+abbrev pub fits_own : HubConfig → List Message → BrokerSession → Bool
+fits_own config ms s = fits_by config s.end.end (count ms) (bytes_of ms)
+
+leaves_nothing : (o : Option ℕ) (used : ℕ) → leaves o used 0 ≡ true
+leaves_nothing None used = refl
+leaves_nothing (Some most) used = le-leb 0 (most - used) (omega arith)
+
+own_fits : (config : HubConfig) (key : ℕ) (ms : List Message) (cs : List (ℕ × Message)) (s : BrokerSession) → is_among key cs ≡ false → s.key ≡ key
+    → fits_in config (for_key key ms ++ cs) (session_of s) ≡ fits_own config ms s
+own_fits config key ms cs s none same =
+    ap₂ (fits_by config s.end.end)
+    (subst (λ (k : ℕ). needs k (for_key key ms ++ cs) ≡ count ms) (sym same) (own_weighed (λ m. 1) key ms cs none ∙ counted ms))
+    (subst (λ (k : ℕ). needed_bytes k (for_key key ms ++ cs) ≡ bytes_of ms) (sym same) (own_weighed message_bytes key ms cs none))
+
+rest_fits : (config : HubConfig) (key : ℕ) (cs : List (ℕ × Message)) (s : BrokerSession) → is_among key cs ≡ false → s.key ≡ key → fits_in config cs (session_of s) ≡ true
+rest_fits config key cs s none same =
+    ap₂ (fits_by config s.end.end)
+    (subst (λ (k : ℕ). needs k cs ≡ 0) (sym same) (none_weighed (λ m. 1) key cs none))
+    (subst (λ (k : ℕ). needed_bytes k cs ≡ 0) (sym same) (none_weighed message_bytes key cs none))
+    ∙ ap₂ (λ (a b : Bool). a && b) (le-leb 0 (config.capacity - length (uses s.end.end.book)) (omega arith)) (leaves_nothing config.most_stored (stored_bytes s.end.end.book))
+
+other_fits : (config : HubConfig) (key : ℕ) (ms : List Message) (cs : List (ℕ × Message)) (s : BrokerSession) → eqb key s.key ≡ false
+    → fits_in config (for_key key ms ++ cs) (session_of s) ≡ fits_in config cs (session_of s)
+other_fits config key ms cs s apart =
+    ap₂ (fits_by config s.end.end) (other_weighed (λ m. 1) s.key key ms cs apart) (other_weighed message_bytes s.key key ms cs apart)
+
+with_own : (config : HubConfig) (key : ℕ) (ms : List Message) (cs : List (ℕ × Message)) (ts : List BrokerSession) → is_among key cs ≡ false
+    → AllByRecursion (λ s. s.key ≡ key → fits_own config ms s ≡ true) ts → room_of config (for_key key ms ++ cs) ts ≡ room_of config cs ts
+with_own config key ms cs [] none fits = refl
+with_own config key ms cs (t ∷ ts) none fits = ap₂ (λ (a b : Bool). a && b) (go (eqb key t.key) refl) (with_own config key ms cs ts none fits.1)
   where
-    go : (b : Bool) → eqb key t.key ≡ b → nat_le (needs t.key (for_key key ms ++ cs)) (cap - length (uses t.end.end.book)) ≡ nat_le (needs t.key cs) (cap - length (uses t.end.end.book))
+    go : (b : Bool) → eqb key t.key ≡ b → fits_in config (for_key key ms ++ cs) (session_of t) ≡ fits_in config cs (session_of t)
     go true e =
-        let same : key ≡ t.key = eqb-true key t.key e in
-        let few : count ms ≤ cap - length (uses t.end.end.book) = free.0 (sym same) in
-        let own : needs t.key (for_key key ms ++ cs) ≡ count ms = subst (λ (k : ℕ). needs k (for_key key ms ++ cs) ≡ count ms) same (own_needs key ms cs none) in
-        let zero : needs t.key cs ≡ 0 = subst (λ (k : ℕ). needs k cs ≡ 0) same (none_needs key cs none) in
-        le-leb (needs t.key (for_key key ms ++ cs)) (cap - length (uses t.end.end.book)) (subst (λ (n : ℕ). n ≤ cap - length (uses t.end.end.book)) (sym own) few)
-        ∙ sym (le-leb (needs t.key cs) (cap - length (uses t.end.end.book)) (subst (λ (n : ℕ). n ≤ cap - length (uses t.end.end.book)) (sym zero) (omega arith)))
-    go false e = ap (λ (n : ℕ). nat_le n (cap - length (uses t.end.end.book))) (other_needs t.key key ms cs e)
+        let same : t.key ≡ key = sym (eqb-true key t.key e) in
+        own_fits config key ms cs t none same ∙ fits.0 same ∙ sym (rest_fits config key cs t none same)
+    go false e = other_fits config key ms cs t e
 
 and_no : (a : Bool) → (a && false) ≡ false
 and_no true = refl
 and_no false = refl
 
-short_own : (key : ℕ) (ms : List Message) (cs : List (ℕ × Message)) (cap : ℕ) (t : BrokerSession) (ts : List BrokerSession) → is_among key cs ≡ false → session_at key ts ≡ Some t
-    → cap - length (uses t.end.end.book) < count ms → room_of cap (for_key key ms ++ cs) ts ≡ false
-short_own key ms cs cap t [] none there short = absurd cc
-short_own key ms cs cap t (s ∷ ts) none there short = go (eqb s.key key) refl (short_own key ms cs cap t ts none)
+short_own : (config : HubConfig) (key : ℕ) (ms : List Message) (cs : List (ℕ × Message)) (t : BrokerSession) (ts : List BrokerSession) → is_among key cs ≡ false → session_at key ts ≡ Some t
+    → fits_own config ms t ≡ false → room_of config (for_key key ms ++ cs) ts ≡ false
+short_own config key ms cs t [] none there short = absurd cc
+short_own config key ms cs t (s ∷ ts) none there short = go (eqb s.key key) refl (short_own config key ms cs t ts none)
   where
-    go : (b : Bool) → eqb s.key key ≡ b → (session_at key ts ≡ Some t → cap - length (uses t.end.end.book) < count ms → room_of cap (for_key key ms ++ cs) ts ≡ false)
-        → room_of cap (for_key key ms ++ cs) (s ∷ ts) ≡ false
+    go : (b : Bool) → eqb s.key key ≡ b → (session_at key ts ≡ Some t → fits_own config ms t ≡ false → room_of config (for_key key ms ++ cs) ts ≡ false)
+        → room_of config (for_key key ms ++ cs) (s ∷ ts) ≡ false
     go true e rest =
         let is : s ≡ t = some_same (sym (cond-true (eqb s.key key) (Some s) (session_at key ts) e) ∙ there) in
-        let own : needs s.key (for_key key ms ++ cs) ≡ count ms = subst (λ (k : ℕ). needs k (for_key key ms ++ cs) ≡ count ms) (sym (eqb-true s.key key e)) (own_needs key ms cs none) in
-        let few : cap - length (uses s.end.end.book) < needs s.key (for_key key ms ++ cs) =
-        subst (λ (n : ℕ). cap - length (uses s.end.end.book) < n) (sym own) (subst (λ (x : BrokerSession). cap - length (uses x.end.end.book) < count ms) (sym is) short) in
-        ap (λ (b : Bool). b && room_of cap (for_key key ms ++ cs) ts) (lt-leb (needs s.key (for_key key ms ++ cs)) (cap - length (uses s.end.end.book)) few)
+        ap (λ (b : Bool). b && room_of config (for_key key ms ++ cs) ts)
+        (own_fits config key ms cs s none (eqb-true s.key key e) ∙ subst (λ (x : BrokerSession). fits_own config ms x ≡ false) (sym is) short)
     go false e rest =
-        ap (λ (b : Bool). nat_le (needs s.key (for_key key ms ++ cs)) (cap - length (uses s.end.end.book)) && b) (rest (sym (cond-false (eqb s.key key) (Some s) (session_at key ts) e) ∙ there) short)
-        ∙ and_no (nat_le (needs s.key (for_key key ms ++ cs)) (cap - length (uses s.end.end.book)))
+        ap (λ (b : Bool). fits_in config (for_key key ms ++ cs) (session_of s) && b) (rest (sym (cond-false (eqb s.key key) (Some s) (session_at key ts) e) ∙ there) short)
+        ∙ and_no (fits_in config (for_key key ms ++ cs) (session_of s))
 
 -- ---- the one session of a key
 
@@ -293,31 +327,6 @@ all_there P key t (s ∷ ts) all there = go (eqb s.key key) refl (all_there P ke
     go true e rest = subst P (some_same (sym (cond-true (eqb s.key key) (Some s) (session_at key ts) e) ∙ there)) all.0
     go false e rest = rest (sym (cond-false (eqb s.key key) (Some s) (session_at key ts) e) ∙ there)
 
-none_unknown : (s : EndState) (ms : List Message) → AllByRecursion (λ m. MayGo m s) ms → list_any (λ m. not s.end.known) ms ≡ false
-none_unknown s [] all = refl
-none_unknown s (m ∷ ms) all = ap₂ (λ (a b : Bool). not a || b) all.0.known (none_unknown s ms all.1)
-
-none_down : (s : EndState) (ms : List Message) → AllByRecursion (λ m. MayGo m s) ms → list_any (λ m. not (has_identifier m.qos) && not (is_up s.end.state)) ms ≡ false
-none_down s [] all = refl
-none_down s (m ∷ ms) all = ap₂ (λ (a b : Bool). a || b) (go (has_identifier m.qos) refl) (none_down s ms all.1)
-  where
-    go : (b : Bool) → has_identifier m.qos ≡ b → (not b && not (is_up s.end.state)) ≡ false
-    go true e = refl
-    go false e = ap not (all.0.up e)
-
-none_large : (s : EndState) (ms : List Message) → AllByRecursion (λ m. MayGo m s) ms → list_any (λ m. ltb s.limit.most (publish_size m)) ms ≡ false
-none_large s [] all = refl
-none_large s (m ∷ ms) all = ap₂ (λ (a b : Bool). a || b) (go (ltb s.limit.most (publish_size m)) refl) (none_large s ms all.1)
-  where
-    go : (b : Bool) → ltb s.limit.most (publish_size m) ≡ b → ltb s.limit.most (publish_size m) ≡ false
-    go true e = let l = ltb-true s.limit.most (publish_size m) e in let fits = all.0.fits in absurd (omega arith)
-    go false e = e
-
--- messages that may be sent are refused only for lack of identifiers
-full_only : (s : EndState) (ms : List Message) → AllByRecursion (λ m. MayGo m s) ms
-    → ready_refusal s.limit.most s.capacity ms s.end ≡ cond (ltb (s.capacity - length (uses s.end.book)) (count ms)) (Some refusals.Full) None
-full_only s ms all = rw (none_unknown s ms all, none_down s ms all, none_large s ms all) refl
-
 ok_err : (a : Result ⊤ PublishRefusal) (why : PublishRefusal) → a ≡ Ok tt → a ≡ Err why → ⊥
 ok_err a why e f = absurd cc
 
@@ -365,53 +374,53 @@ module _ (key : ℕ) (ms : List Message) (more : ℕ) (answer : Result ⊤ Publi
     };
   })
 
-  module _ (for : IsFor key ms old) where
-    may : AllByRecursion (λ m. MayGo m r.session.end) ms
-    may = subst (λ (x : BrokerSession). AllByRecursion (λ m. MayGo m x.end) ms) (some_same (sym for.there ∙ r.there)) for.may_go
+-- whether there is room for the messages of a client besides these copies
+pub enough_own : (key : ℕ) (ms : List Message) (cs : List (ℕ × Message)) (h : HubState) (s : BrokerSession) (ts : List BrokerSession) → AreAscending ts → session_at key ts ≡ Some s → HasSessions ts h
+    → is_among key cs ≡ false → fits_own h.config ms s ≡ true → all_fit (for_key key ms ++ cs) h ≡ all_fit cs h
+unfolding all_fit
+enough_own key ms cs h s ts up there has none fits =
+    ap (λ (ss : List HubSession). list_all (fits_in h.config (for_key key ms ++ cs)) ss) has.sessions
+    ∙ with_own h.config key ms cs ts none (only_own (λ x. fits_own h.config ms x ≡ true) key s ts up there fits)
+    ∙ ap (λ (ss : List HubSession). list_all (fits_in h.config cs) ss) (sym has.sessions)
 
-    pub has_few : answer ≡ Ok tt → count ms ≤ r.session.end.capacity - length (uses r.session.end.end.book)
-    has_few ok =
-        let u = length (uses r.session.end.end.book) in
-        ltb-false (r.session.end.capacity - u) (count ms) (test (ltb (r.session.end.capacity - u) (count ms)) (sym (full_only r.session.end ms may) ∙ not_refused ok))
-      where
-        test : (b : Bool) → cond b (Some refusals.Full) None ≡ None → b ≡ false
-        test true e = absurd (some_none e)
-        test false e = refl
+pub few_own : (key : ℕ) (ms : List Message) (cs : List (ℕ × Message)) (h : HubState) (s : BrokerSession) (ts : List BrokerSession) → session_at key ts ≡ Some s → HasSessions ts h
+    → is_among key cs ≡ false → fits_own h.config ms s ≡ false → all_fit (for_key key ms ++ cs) h ≡ false
+unfolding all_fit
+few_own key ms cs h s ts there has none short =
+    ap (λ (ss : List HubSession). list_all (fits_in h.config (for_key key ms ++ cs)) ss) has.sessions
+    ∙ short_own h.config key ms cs s ts none there short
 
-    pub has_short : answer ≡ Err refusals.Full → r.session.end.capacity - length (uses r.session.end.end.book) < count ms
-    has_short full =
-        let u = length (uses r.session.end.end.book) in
-        ltb-true (r.session.end.capacity - u) (count ms) (test (ltb (r.session.end.capacity - u) (count ms)) refl)
-      where
-        memory_full : refusals.Full ≡ refusals.Memory → ⊥
-        memory_full e = absurd cc
+-- a copy without an identifier needs no room
+plain_weighs : (w : Message → ℕ) (k key : ℕ) (m : Message) (cs : List (ℕ × Message)) → has_identifier m.qos ≡ false → weighed w k ((key, m) ∷ cs) ≡ weighed w k cs
+plain_weighs w k key m cs plain =
+    weighed_cons w k (key, m) cs
+    ∙ ap (λ (b : Bool). cond (eqb key k && b) (w m) 0 + weighed w k cs) plain
+    ∙ ap (λ (b : Bool). cond b (w m) 0 + weighed w k cs) (and_no (eqb key k))
+    ∙ zero-add (weighed w k cs)
 
-        test : (b : Bool) → ltb (r.session.end.capacity - length (uses r.session.end.end.book)) (count ms) ≡ b → ltb (r.session.end.capacity - length (uses r.session.end.end.book)) (count ms) ≡ true
-        test true e = e
-        test false e =
-            let none = full_only r.session.end ms may ∙ ap (λ (b : Bool). cond b (Some refusals.Full) None) e in
-            let by = subst (λ (o : Option PublishRefusal). IfNone o (IfErr answer (λ why. why ≡ refusals.Memory))) none r.readies.memory in
-            absurd (memory_full (subst (λ (a : Result ⊤ PublishRefusal). IfErr a (λ why. why ≡ refusals.Memory)) full by))
+pub plain_fits : (key : ℕ) (m : Message) (cs : List (ℕ × Message)) (h : HubState) → has_identifier m.qos ≡ false → all_fit ((key, m) ∷ cs) h ≡ all_fit cs h
+unfolding all_fit
+plain_fits key m cs h plain = go h.sessions
+  where
+    go : (ss : List HubSession) → list_all (fits_in h.config ((key, m) ∷ cs)) ss ≡ list_all (fits_in h.config cs) ss
+    go [] = refl
+    go (s ∷ ss) =
+        ap₂ (λ (a b : Bool). a && b)
+        (ap₂ (fits_by h.config s.end) (plain_weighs (λ x. 1) s.key key m cs plain) (plain_weighs message_bytes s.key key m cs plain))
+        (go ss)
 
-    pub has_enough : answer ≡ Ok tt → (cs : List (ℕ × Message)) (h : HubState) → HasSessions old h → is_among key cs ≡ false → all_fit (for_key key ms ++ cs) h ≡ all_fit cs h
-    unfolding all_fit
-    has_enough ok cs h has none =
-        let cap = h.config.capacity in
-        let at = all_there (λ t. t.end.capacity ≡ cap) key r.session old has.capacity r.there in
-        let u = length (uses r.session.end.end.book) in
-        let few : count ms ≤ cap - u = subst (λ (n : ℕ). count ms ≤ n - u) at (has_few ok) in
-        ap (λ (ss : List HubSession). list_all (λ s. nat_le (needs s.key (for_key key ms ++ cs)) (cap - length (uses s.end.book))) ss) has.sessions
-        ∙ with_own key ms cs cap old none (only_own (λ s. count ms ≤ cap - length (uses s.end.end.book)) key r.session old up r.there few)
-        ∙ ap (λ (ss : List HubSession). list_all (λ s. nat_le (needs s.key cs) (cap - length (uses s.end.book))) ss) (sym has.sessions)
+leaves_is : (o : Option ℕ) (used more : ℕ) → leaves o used more ≡ fits_left (left_of o used) more
+leaves_is None used more = refl
+leaves_is (Some most) used more = refl
 
-    pub has_too_few : answer ≡ Err refusals.Full → (cs : List (ℕ × Message)) (h : HubState) → HasSessions old h → is_among key cs ≡ false → all_fit (for_key key ms ++ cs) h ≡ false
-    unfolding all_fit
-    has_too_few full cs h has none =
-        let cap = h.config.capacity in
-        let at = all_there (λ t. t.end.capacity ≡ cap) key r.session old has.capacity r.there in
-        let u = length (uses r.session.end.end.book) in
-        ap (λ (ss : List HubSession). list_all (λ s. nat_le (needs s.key (for_key key ms ++ cs)) (cap - length (uses s.end.book))) ss) has.sessions
-        ∙ short_own key ms cs cap r.session old none r.there (subst (λ (n : ℕ). n - u < count ms) at (has_short full))
+-- what a session has room for is what a broker with it has room for
+pub fits_is : (key : ℕ) (most_stored : Option ℕ) (ms : List Message) (h : HubState) (s : BrokerSession) (ts : List BrokerSession) → session_at key ts ≡ Some s → HasSessions ts h
+    → h.config.most_stored ≡ most_stored → fits_own h.config ms s ≡ has_room most_stored ms s.end
+fits_is key most_stored ms h s ts there has stored =
+    let cap = all_there (λ t. t.end.capacity ≡ h.config.capacity) key s ts has.capacity there in
+    let used = stored_bytes s.end.end.book in
+    ap₂ (λ (n : ℕ) (o : Option ℕ). nat_le (count ms) (n - length (uses s.end.end.book)) && leaves o used (bytes_of ms)) (sym cap) stored
+    ∙ ap (λ (b : Bool). nat_le (count ms) (s.end.capacity - length (uses s.end.end.book)) && b) (leaves_is most_stored used (bytes_of ms))
 
 -- ---- one copy after another
 
@@ -449,9 +458,12 @@ pub fit_none : (h : HubState) → all_fit [] h ≡ true
 unfolding all_fit
 fit_none h = go h.sessions
   where
-    go : (ss : List HubSession) → list_all (λ s. nat_le (needs s.key []) (h.config.capacity - length (uses s.end.book))) ss ≡ true
+    go : (ss : List HubSession) → list_all (fits_in h.config []) ss ≡ true
     go [] = refl
-    go (s ∷ ss) = ap₂ (λ (a b : Bool). a && b) (le-leb 0 (h.config.capacity - length (uses s.end.book)) (omega arith)) (go ss)
+    go (s ∷ ss) =
+        ap₂ (λ (a b : Bool). a && b)
+        (ap₂ (λ (a b : Bool). a && b) (le-leb 0 (h.config.capacity - length (uses s.end.book)) (omega arith)) (leaves_nothing h.config.most_stored (stored_bytes s.end.book)))
+        (go ss)
 
 -- so there is room for no copies
 pub room_none : (h : HubState) → have_room [] h ≡ true

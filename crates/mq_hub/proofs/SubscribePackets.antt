@@ -1,5 +1,6 @@
 -- A connected client subscribes, and gets the retained messages.
-use Rattle.std.proofs.Common.{◌≡◌, ◌&&◌, ℕ, suc, ◌+◌, ◌-◌, ◌≤◌, Bool, true, false, cond, List, [], ◌∷◌, ◌++◌, length, map, filter, Some, Result, Ok, Err, IfOk, OnErr, refl, sym, ap, ap₂, subst, ◌∙◌, append-nil, arith}
+use Rattle.std.proofs.Common.{◌≡◌, ℕ, suc, ◌+◌, ◌≤◌, Bool, true, false, cond, List, [], ◌∷◌, ◌++◌, length, map, filter, Option, Some, is_some, Result, Ok, Err, IfOk, OnErr, refl, sym, ap, subst, ◌∙◌, arith}
+use Rattle.std.proofs.lemmas.List.{length-append}
 use Rattle.std.specs.List.{AllByRecursion}
 use Rattle.std.specs.declared.alloc.AllocError.{AllocError}
 use Rattle.mq_topic.specs.declared.qos.Qos.{Qos}
@@ -9,7 +10,7 @@ use Rattle.mq_packet.specs.declared.message.Message.{Message}
 use Rattle.mq_packet.specs.declared.packet.Packet.TheVariants as packets
 use Rattle.mq_packet.specs.declared.packet.Request.{Request}
 use Rattle.mq_packet.specs.declared.packet.SubAckCode.{SubAckCode}
-use Rattle.mq_packet.specs.Encoding.{fields}
+use Rattle.mq_packet.specs.Encoding.{encoded_size, encodings, fields}
 use Rattle.mq_decode.specs.Limits.{Bounds}
 use Rattle.mq_flow.specs.Next.{next_identifier}
 use Rattle.mq_end.specs.declared.happening.Happening.TheVariants as happens
@@ -20,12 +21,12 @@ use Rattle.mq_end.specs.Server.{subacks}
 use Rattle.mq_end.specs.Sizes.{publish_size, requests_size, suback_size, subscribe_size}
 use Rattle.mq_route.specs.declared.act.Act.{Act}
 use Rattle.mq_route.specs.declared.config.HubConfig.{HubConfig}
-use Rattle.mq_route.specs.declared.config.WhenFull.{WhenFull}
 use Rattle.mq_route.specs.declared.conn.Conn.{Conn}
 use Rattle.mq_route.specs.Arrives.{answers, granted}
 use Rattle.mq_route.specs.Copies.{copy, retained_for}
 use Rattle.mq_route.specs.Hub.{HubState, HubConnection, for_key, up_on}
 use Rattle.mq_route.specs.Work.{Work, does, place_all, publishes_next, retained_copies, subscribed}
+use Rattle.mq_hub.specs.declared.publish.rules.CopyRules.{CopyRules}
 use Rattle.mq_hub.specs.declared.sessions.call.Call.TheVariants.{Grants}
 use Rattle.mq_hub.specs.declared.sessions.session.BrokerSession.{BrokerSession}
 use Rattle.mq_hub.specs.Inside.Requests.{Subscribes}
@@ -33,7 +34,7 @@ use Rattle.mq_hub.specs.Inside.Calls.{CanServe, reply_of, ServesAt}
 use Rattle.mq_hub.specs.Inside.Refinement.{Refines}
 use Rattle.mq_hub.specs.Inside.Invariant.{HubInvariant, SessionMatchesConnection, IsWithin, HasSession}
 use Rattle.mq_hub.specs.Inside.Connections.{ConnectionList}
-use Rattle.mq_hub.specs.Inside.Placement.{HasSessions, IsFor, MayGo, placed_acts, placed_all, placed_at, published, with_list, AreSameButRoom, Settles, free_of}
+use Rattle.mq_hub.specs.Inside.Placement.{HasSessions, IsFor, MayGo, placed_all, placed_at, published, roomless, with_list, AreSameButRoom, Settles}
 use Rattle.mq_hub.specs.Inside.Retained.{RetainedTable}
 use Rattle.mq_hub.specs.Inside.View.{HubTables, all_seen, hub_of}
 use Rattle.mq_hub.specs.Inside.Sessions.{sessions_of, session_at}
@@ -44,12 +45,13 @@ use Rattle.mq_hub.proofs.InvariantChanges.{kept_by}
 use Rattle.mq_hub.proofs.CopyTargets.{copy_size}
 use Rattle.mq_hub.proofs.SessionRoom.{changed_own, same_change, same_session, some_same}
 use Rattle.mq_hub.proofs.EndReplies.{Stays, kept_replied}
-use Rattle.mq_hub.proofs.PlacedCopies.{can_place, for_placeable, goes}
+use Rattle.mq_hub.proofs.PlacedCopies.{can_place, for_placeable, goes, heard_retained}
 use Rattle.mq_hub.proofs.MissedCopies.{settled_as}
+use Rattle.mq_hub.proofs.Spaces.{frame_bytes, same_space}
 use Rattle.mq_hub.specs.Inside.Settlement.{IsSettledAs}
+use Rattle.mq_hub.specs.Inside.Rules.{rules_of, space_of}
 use Rattle.mq_hub.specs.declared.publish.settle.SettledMessages.{SettledMessages}
 use Rattle.mq_end.specs.declared.packet_outcome.PacketOutcome.{PacketOutcome}
-use Rattle.mq_flow.specs.Sender.{uses}
 
 -- ---- messages that are placed for a connected client
 
@@ -156,7 +158,7 @@ can_grant config next t kept key k on i rs within =
 -- ---- the broker
 
 module _ (config : HubConfig) (next key : ℕ) (t u : HubTables) (kept : HubInvariant config next t) (k : Conn) (on : up_on key t.connections.connections ≡ Some k) (i : ℕ) (rs : List Request)
-    (policy : WhenFull) (says : List Act) (s : Subscribes key i rs policy t u says) where
+    (rules : CopyRules) (says : List Act) (s : Subscribes key i rs rules t u says) where
   owned : AllByRecursion (λ r. HasSession t.sessions.list r.0.0) (with_rows key rs t.rows)
   owned = with_owned (HasSession t.sessions.list) key rs t.rows (stands_up config next t kept key k on) kept.owned
 
@@ -195,44 +197,61 @@ module _ (config : HubConfig) (next key : ℕ) (t u : HubTables) (kept : HubInva
           connections = all_seen u.sessions.list (sym connections i).connections;
         }
 
-    placed_goes : config.when_full ≡ policy → Refines (place_all (retained_copies key rs t.retained.messages)) (hub_of config clock next s.between) (did ++ subscribed_acts key rs)
+    placed_goes : rules_of config ≡ rules → Refines (place_all (retained_copies key rs t.retained.messages)) (hub_of config clock next s.between) (did ++ subscribed_acts key rs)
         (hub_of config clock next u) ((did ++ subscribed_acts key rs) ++ says)
     placed_goes same =
         subst (λ (h : HubState). Refines (place_all (retained_copies key rs t.retained.messages)) (hub_of config clock next s.between) (did ++ subscribed_acts key rs) h
         ((did ++ subscribed_acts key rs) ++ says)) hub_placed
         (goes config clock next s.between (did ++ subscribed_acts key rs) says (retained_copies key rs t.retained.messages) (for_key key s.messages)
-        s.between.sessions.list u.sessions.list refl (can_place config next s.between kept_between) (s.settles config next same kept_between)
+        s.between.sessions.list u.sessions.list refl (can_place config next s.between kept_between)
+        (heard_retained s.between.connections.connections key rs t.retained.messages
+        (ap (λ (l : ConnectionList). is_some (up_on key l.connections)) s.answers.connections ∙ ap (λ (o : Option Conn). is_some o) on))
+        (s.settles config next same kept_between)
         (for_placeable key s.messages 0 s.between.sessions.list s.ready) s.list)
 
-    pub subscribed_goes : config.when_full ≡ policy → (conn : Conn) → Refines (answers conn key (happens.Subscribe i rs)) (hub_of config clock next t) did (hub_of config clock next u)
+    pub subscribed_goes : rules_of config ≡ rules → (conn : Conn) → Refines (answers conn key (happens.Subscribe i rs)) (hub_of config clock next t) did (hub_of config clock next u)
         ((did ++ subscribed_acts key rs) ++ says)
     unfolding answers
-    subscribed_goes policy_is conn =
+    subscribed_goes same_rules conn =
         let first = λ (w : Work). does key (subacks i (granted rs)) (subscribed key rs w) in
         let same : (w : Work) → w.hub ≡ hub_of config clock next t → retained_copies key rs w.hub.retained ≡ retained_copies key rs t.retained.messages =
         λ w at. ap (λ (h : HubState). retained_copies key rs h.retained) at in
         let q = served_goes in
-        let p = placed_goes policy_is in record {
+        let p = placed_goes same_rules in record {
           hub = λ w at said. ap (λ (cs : List (ℕ × Message)). (place_all cs (first w)).hub) (same w at) ∙ p.hub (first w) (q.hub w at said) (q.did w at said);
           did = λ w at said. ap (λ (cs : List (ℕ × Message)). (place_all cs (first w)).did) (same w at) ∙ p.did (first w) (q.hub w at said) (q.did w at said);
         }
 
 -- ---- the retained messages are settled before SUBACK is queued, and placed after it
 
-pub settles_served : (policy : WhenFull) (config : HubConfig) (key i : ℕ) (codes : List SubAckCode) (o : PacketOutcome) (ms : List Message) (s : SettledMessages) (ts ready us : List BrokerSession) (t : BrokerSession)
-    → config.when_full ≡ policy → AreSameButRoom ts ready → session_at key ts ≡ Some t → ServesAt key (Grants i codes) (Ok o) ready us
-    → ((u : BrokerSession) → session_at key us ≡ Some u → u.end.capacity ≡ config.capacity) → IsSettledAs policy key ts ms s
-    → Settles config us (for_key key ms) (for_key key s.kept.items) s.acts.items
-settles_served policy config key i codes o ms s ts ready us t is same there at cap settled =
+granted_bytes : (old new : List ℕ) (i queued : ℕ) (codes : List SubAckCode) → new ≡ old ++ encodings (packets.SubAck i codes ∷ []) → length (fields (packets.SubAck i codes)) ≡ suback_size codes
+    → queued ≡ encoded_size (2 + length codes) → length new ≡ queued + length old
+granted_bytes old new i queued codes is long size =
+    let all : length (encodings (packets.SubAck i codes ∷ [])) ≡ queued = frame_bytes (packets.SubAck i codes) ∙ ap encoded_size long ∙ sym size in
+    let total = ap (λ (b : List ℕ). length b) is ∙ length-append old (encodings (packets.SubAck i codes ∷ [])) in
+    omega (arith, all, total)
+
+pub settles_served : (rules : CopyRules) (config : HubConfig) (key i queued : ℕ) (codes : List SubAckCode) (o : PacketOutcome) (ms : List Message) (s : SettledMessages) (ts ready us : List BrokerSession)
+    (t : BrokerSession) → rules_of config ≡ rules → AreSameButRoom ts ready → session_at key ts ≡ Some t → ServesAt key (Grants i codes) (Ok o) ready us
+    → ((u : BrokerSession) → session_at key us ≡ Some u → u.end.capacity ≡ config.capacity) → is_up t.end.end.state ≡ true → length (fields (packets.SubAck i codes)) ≡ suback_size codes
+    → queued ≡ encoded_size (2 + length codes)
+    → IsSettledAs rules queued key ts ms s → Settles config (λ k. 0) us (for_key key ms) (for_key key s.kept.items) s.acts.items
+settles_served rules config key i queued codes o ms s ts ready us t is same there at cap up long size settled =
     let w = same_session key t ts ready same there in
     let own : w.0 ≡ at.session = some_same (sym w.1 ∙ at.there) in
     let u : BrokerSession = record at.session { end = at.end } in
     let after : session_at key us ≡ Some u = subst (λ (xs : List BrokerSession). session_at key xs ≡ Some u) (sym at.after) (changed_own (λ x. at.end) key at.session ready at.there) in
     let replies = at.serves.ok.replies in
-    let free : free_of u.end ≡ free_of t.end =
-    ap₂ (λ (n : ℕ) (e : End). n - length (uses e.book)) replies.capacity replies.end
-    ∙ ap (λ (x : BrokerSession). free_of x.end) (sym own) ∙ ap (λ (x : BrokerSession). free_of x.end) w.2 in
-    settled_as policy config key ms s ts us t u is there after (cap u after) free settled
+    let roomless_own : roomless at.session ≡ roomless t = ap roomless (sym own) ∙ w.2 in
+    let capacity : u.end.capacity ≡ t.end.capacity = replies.capacity ∙ ap (λ (x : BrokerSession). x.end.capacity) roomless_own in
+    let book : u.end.end.book ≡ t.end.end.book = ap (λ (e : End). e.book) replies.end ∙ ap (λ (x : BrokerSession). x.end.end.book) roomless_own in
+    let state : is_up u.end.end.state ≡ true = ap (λ (e : End). is_up e.state) replies.end ∙ ap (λ (x : BrokerSession). is_up x.end.end.state) roomless_own ∙ up in
+    let output : length u.end.output ≡ queued + length t.end.output =
+    granted_bytes at.session.end.output u.end.output i queued codes replies.output long size
+    ∙ ap (λ (x : BrokerSession). queued + length x.end.output) roomless_own in
+    let space : space_of rules 0 u.end ≡ space_of rules queued t.end =
+    same_space rules queued u.end t.end capacity book output in
+    settled_as rules config queued key ms s ts us t u is there after (cap u after) state space settled
 
 -- ---- what the tables say of it, and what the broker is then
 

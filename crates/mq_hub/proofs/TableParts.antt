@@ -7,19 +7,19 @@ use Rattle.std.specs.Str.{bytes_eq}
 use Rattle.mq_topic.specs.Rows.{without_client}
 use Rattle.mq_packet.specs.declared.connect.Will.{Will}
 use Rattle.mq_packet.specs.declared.message.Message.{Message}
+use Rattle.mq_hub.specs.declared.publish.rules.CopyRules.{CopyRules}
 use Rattle.mq_hub.specs.declared.connections.table.ConnectionLimits.{ConnectionLimits}
 use Rattle.mq_end.specs.Sizes.{publish_size}
 use Rattle.mq_route.specs.declared.act.Act.{Act}
 use Rattle.mq_route.specs.declared.act.Act.TheVariants as acts
 use Rattle.mq_route.specs.declared.close.HubClose.{HubClose}
 use Rattle.mq_route.specs.declared.config.HubConfig.{HubConfig}
-use Rattle.mq_route.specs.declared.config.WhenFull.{WhenFull}
 use Rattle.mq_route.specs.declared.conn.Conn.{Conn}
 use Rattle.mq_route.specs.declared.connection_state.ConnectionState.{ConnectionState}
 use Rattle.mq_route.specs.declared.connection_state.ConnectionState.TheVariants.{AwaitingConnect}
 use Rattle.mq_route.specs.Hub.{HubState, HubConnection, is_clean, is_connection, key_of, key_on, stage_of, up_on, with_connection}
 use Rattle.mq_route.specs.Routed.{same_conn}
-use Rattle.mq_route.specs.Work.{Work, close, last_will}
+use Rattle.mq_route.specs.Work.{Work, last_will, shut_down}
 use Rattle.mq_hub.specs.declared.sessions.session.BrokerSession.{BrokerSession}
 use Rattle.mq_hub.specs.Inside.Refinement.{Refines}
 use Rattle.mq_hub.specs.Inside.Invariant.{HubInvariant, IsWillWithin}
@@ -29,6 +29,7 @@ use Rattle.mq_hub.specs.Inside.TableSteps.{AreHubTables, Proceeds, Spares}
 use Rattle.mq_hub.specs.Inside.View.{HubTables, hub_of}
 use Rattle.mq_hub.specs.Inside.Sessions.{sessions_of, session_at, without_key}
 use Rattle.mq_hub.specs.Inside.DeliveryPlan.{AreTablesAlike}
+use Rattle.mq_hub.specs.Inside.Rules.{rules_of}
 use Rattle.mq_hub.proofs.ConnectionChange.{stage_seen}
 use Rattle.mq_hub.proofs.TakenOutput.{IsUpFor, backed_at, is_up_for}
 use Rattle.mq_hub.proofs.ConnectionTable.{one_conn}
@@ -152,9 +153,9 @@ module _ (k : Conn) (why : HubClose) (key : ℕ) (t v : HubTables) (hubs : AreHu
   clients_parted n =
       ap (λ (ts : List BrokerSession). key_of n (sessions_of ts)) detach.after ∙ named_with n key (parted detach.session.end) t.sessions.list
 
-  pub proceeds_parted : (policy : WhenFull) (did says : List Act) → is_clean (stage_of k t.connections.connections) ≡ false → says ≡ did ++ acts.Closed k why ∷ []
-      → Proceeds policy (λ fits. parts k why key false) t did v says
-  proceeds_parted policy did says lasts said =
+  pub proceeds_parted : (rules : CopyRules) (did says : List Act) → is_clean (stage_of k t.connections.connections) ≡ false → says ≡ did ++ acts.Closed k why ∷ []
+      → Proceeds rules (λ fits. parts k why key false) t did v says
+  proceeds_parted rules did says lasts said =
       let clean = ap is_clean (sym at.is) ∙ lasts in
       let rows = ap (λ (a : HubTables). a.rows) rest in
       let retained = ap (λ (a : HubTables). a.retained.messages) rest in
@@ -171,10 +172,10 @@ module _ (k : Conn) (why : HubClose) (key : ℕ) (t v : HubTables) (hubs : AreHu
       }
 
   -- and its session ends
-  pub proceeds_left : (policy : WhenFull) (u : HubTables) (did says : List Act) → u.rows ≡ without_client key v.rows → u.sessions.list ≡ without_key key v.sessions.list
+  pub proceeds_left : (rules : CopyRules) (u : HubTables) (did says : List Act) → u.rows ≡ without_client key v.rows → u.sessions.list ≡ without_key key v.sessions.list
       → v.sessions.room ≤ u.sessions.room → u ≡ record v { rows = u.rows; sessions = u.sessions }
-      → says ≡ (did ++ acts.Closed k why ∷ []) ++ acts.Removed key ∷ [] → Proceeds policy (λ fits. parts k why key true) t did u says
-  proceeds_left policy u did says gone without more after said =
+      → says ≡ (did ++ acts.Closed k why ∷ []) ++ acts.Removed key ∷ [] → Proceeds rules (λ fits. parts k why key true) t did u says
+  proceeds_left rules u did says gone without more after said =
       let rows = gone ∙ ap (λ (a : HubTables). without_client key a.rows) rest in
       let retained = ap (λ (a : HubTables). a.retained.messages) after ∙ ap (λ (a : HubTables). a.retained.messages) rest in
       let ts = without ∙ ap (without_key key) detach.after in
@@ -194,13 +195,13 @@ module _ (k : Conn) (why : HubClose) (key : ℕ) (t v : HubTables) (hubs : AreHu
       }
 
 -- and then its will is published
-pub proceeds_closed : (policy : WhenFull) (k : Conn) (why : HubClose) (key : ℕ) (will : Option Will) (t v u : HubTables) (did mid says : List Act)
+pub proceeds_closed : (rules : CopyRules) (k : Conn) (why : HubClose) (key : ℕ) (will : Option Will) (t v u : HubTables) (did mid says : List Act)
     → key_on (stage_of k t.connections.connections) ≡ Some key
-    → will ≡ will_left why (stage_of k t.connections.connections) → Proceeds policy (λ fits. parts k why key (is_clean (stage_of k t.connections.connections))) t did v mid
-    → ((config : HubConfig) (clock next : ℕ) → HubInvariant config next v → config.when_full ≡ policy
+    → will ≡ will_left why (stage_of k t.connections.connections) → Proceeds rules (λ fits. parts k why key (is_clean (stage_of k t.connections.connections))) t did v mid
+    → ((config : HubConfig) (clock next : ℕ) → HubInvariant config next v → rules_of config ≡ rules
     → (fits : Bool) × Refines (last_will key will fits) (hub_of config clock next v) mid (hub_of config clock next u) says)
-    → Spares v u → Proceeds policy (close k why) t did u says
-proceeds_closed policy k why key will t v u did mid says up is first last spares =
+    → Spares v u → Proceeds rules (shut_down k why) t did u says
+proceeds_closed rules k why key will t v u did mid says up is first last spares =
     let ts = t.sessions.list in
     let xs = t.connections.connections in
     let seen = sym (stage_seen k ts xs) in
@@ -221,13 +222,13 @@ proceeds_closed policy k why key will t v u did mid says up is first last spares
     }
 
 -- the tables after a part of the step are those of a broker, too
-pub hubs_after : (policy : WhenFull) (change : Bool → Work → Work) (t v : HubTables) (did says : List Act) → AreHubTables t → Proceeds policy change t did v says → AreHubTables v
-hubs_after policy change t v did says hubs p = record { config = hubs.config; next_key = hubs.next_key; keeps = p.keeps hubs.config hubs.next_key hubs.keeps }
+pub hubs_after : (rules : CopyRules) (change : Bool → Work → Work) (t v : HubTables) (did says : List Act) → AreHubTables t → Proceeds rules change t did v says → AreHubTables v
+hubs_after rules change t v did says hubs p = record { config = hubs.config; next_key = hubs.next_key; keeps = p.keeps hubs.config hubs.next_key hubs.keeps }
 
 -- and the will that is left is within their limit
-pub will_after_close : (policy : WhenFull) (change : Bool → Work → Work) (k : Conn) (why : HubClose) (will : Option Will) (t v : HubTables) (did says : List Act) → AreHubTables t
-    → Proceeds policy change t did v says → will ≡ will_left why (stage_of k t.connections.connections) → IsWillWithin v.connections.limits.packets.most will
-will_after_close policy change k why will t v did says hubs p is =
+pub will_after_close : (rules : CopyRules) (change : Bool → Work → Work) (k : Conn) (why : HubClose) (will : Option Will) (t v : HubTables) (did says : List Act) → AreHubTables t
+    → Proceeds rules change t did v says → will ≡ will_left why (stage_of k t.connections.connections) → IsWillWithin v.connections.limits.packets.most will
+will_after_close rules change k why will t v did says hubs p is =
     let kept = hubs.keeps in
     let within = will_within hubs.config.limits.most why k t.sessions.list t.connections.connections kept.backed in
     subst (λ (l : ConnectionLimits). IsWillWithin l.packets.most will) (sym (p.keeps hubs.config hubs.next_key kept).limits)

@@ -8,20 +8,22 @@ use Rattle.mq_route.specs.declared.act.Act.{Act}
 use Rattle.mq_route.specs.declared.act.Act.TheVariants as acts
 use Rattle.mq_route.specs.declared.close.HubClose.TheVariants.{TakenOver}
 use Rattle.mq_route.specs.declared.config.HubConfig.{HubConfig}
-use Rattle.mq_route.specs.declared.config.WhenFull.{WhenFull}
 use Rattle.mq_route.specs.declared.conn.Conn.{Conn}
 use Rattle.mq_route.specs.declared.connection_state.ConnectionState.TheVariants.{AwaitingConnect}
 use Rattle.mq_route.specs.Arrives.{accept_connect, goes_on, resume_session, start_session, take_over}
 use Rattle.mq_route.specs.Hub.{HubState, is_clean, stage_of, up_on, with_connection}
 use Rattle.mq_route.specs.Welcome.{ends_on, ends_with}
 use Rattle.mq_route.specs.Work.{Work, close, remove, remove_if}
+use Rattle.mq_hub.specs.declared.publish.rules.CopyRules.{CopyRules}
 use Rattle.mq_hub.specs.declared.sessions.session.BrokerSession.{BrokerSession}
+use Rattle.mq_hub.specs.Inside.Close.{close_at}
 use Rattle.mq_hub.specs.Inside.Refinement.{Refines}
 use Rattle.mq_hub.specs.Inside.Invariant.{HubInvariant, IsWillWithin}
 use Rattle.mq_hub.specs.Inside.TableSteps.{Proceeds}
 use Rattle.mq_hub.specs.Inside.ConnectRoom.{IsNewSession}
 use Rattle.mq_hub.specs.Inside.View.{HubTables, hub_of}
 use Rattle.mq_hub.specs.Inside.Sessions.{without_key}
+use Rattle.mq_hub.specs.Inside.Rules.{rules_of}
 use Rattle.mq_hub.proofs.NewSession.{goes_begun, keeps_begun}
 use Rattle.mq_hub.proofs.ConnectionChange.{stage_seen}
 use Rattle.mq_hub.proofs.FirstPackets.{goes_as}
@@ -37,9 +39,13 @@ use Rattle.mq_hub.proofs.TableView.{hub_same}
 abbrev pub over_by : Conn → ℕ → Bool → Bool → Work → Work
 over_by k key ends fits w = remove_if (not ends) key (close k TakenOver fits w)
 
-module _ (policy : WhenFull) (k : Conn) (key : ℕ) (t v : HubTables) (did mid : List Act) (first : Proceeds policy (close k TakenOver) t did v mid) where
-  pub over_with : is_clean (stage_of k t.connections.connections) ≡ true → Proceeds policy (over_by k key (is_clean (stage_of k t.connections.connections))) t did v mid
-  over_with ends = subst (λ (b : Bool). Proceeds policy (over_by k key b) t did v mid) (sym ends) (record {
+-- the same, if the session stores this time
+abbrev pub over_at : ℕ → Conn → ℕ → Bool → Bool → Work → Work
+over_at now k key ends fits w = remove_if (not ends) key (close_at now k TakenOver fits w)
+
+module _ (rules : CopyRules) (now : ℕ) (k : Conn) (key : ℕ) (t v : HubTables) (did mid : List Act) (first : Proceeds rules (close_at now k TakenOver) t did v mid) where
+  pub over_with : is_clean (stage_of k t.connections.connections) ≡ true → Proceeds rules (over_at now k key (is_clean (stage_of k t.connections.connections))) t did v mid
+  over_with ends = subst (λ (b : Bool). Proceeds rules (over_at now k key b) t did v mid) (sym ends) (record {
     goes = first.goes;
     keeps = first.keeps;
     room = first.room;
@@ -50,12 +56,12 @@ module _ (policy : WhenFull) (k : Conn) (key : ℕ) (t v : HubTables) (did mid :
   pub over_after : (u : HubTables) (says : List Act) → is_clean (stage_of k t.connections.connections) ≡ false → up_on key v.connections.connections ≡ None
       → u.rows ≡ without_client key v.rows → u.sessions.list ≡ without_key key v.sessions.list → v.sessions.room ≤ u.sessions.room
       → u ≡ record v { rows = u.rows; sessions = u.sessions } → says ≡ mid ++ acts.Removed key ∷ []
-      → Proceeds policy (over_by k key (is_clean (stage_of k t.connections.connections))) t did u says
+      → Proceeds rules (over_at now k key (is_clean (stage_of k t.connections.connections))) t did u says
   over_after u says lasts none rows list more rest said =
       let retained = ap (λ (a : HubTables). a.retained.messages) rest in
       let connections = ap (λ (a : HubTables). a.connections.connections) rest in
       let limits = ap (λ (a : HubTables). a.connections.limits) rest in
-      subst (λ (b : Bool). Proceeds policy (over_by k key b) t did u says) (sym lasts) (record {
+      subst (λ (b : Bool). Proceeds rules (over_at now k key b) t did u says) (sym lasts) (record {
         goes = λ config clock next kept same.
             let h : HubState = hub_of config clock next t in
             let g : HubState = hub_of config clock next v in
@@ -63,7 +69,7 @@ module _ (policy : WhenFull) (k : Conn) (key : ℕ) (t v : HubTables) (did mid :
             let p = first.goes config clock next kept same in
             let left = first.keeps config next kept in (
               p.0,
-              goes_then (close k TakenOver p.0) (remove key) h g i did mid says p.1
+              goes_then (close_at now k TakenOver p.0) (remove key) h g i did mid says p.1
                   (goes_removed key g i mid says (hub_removed key config next v u left none rows retained list connections clock) said),
             );
         keeps = λ config next kept. kept_removed key config next v u (first.keeps config next kept) none rows retained list connections limits;
@@ -131,9 +137,9 @@ pub stage_there : (k : Conn) (config : HubConfig) (clock next : ℕ) (t : HubTab
 stage_there k config clock next t h is = sym (stage_seen k t.sessions.list t.connections.connections) ∙ ap (λ (s : HubState). stage_of k s.connections) is
 
 -- the tables change, and then a session begins
-module _ (policy : WhenFull) (change : Bool → Work → Work) (k : Conn) (c : Connect) (client : List ℕ) (config : HubConfig) (clock next : ℕ) (r v u : HubTables) (own : BrokerSession)
+module _ (rules : CopyRules) (change : Bool → Work → Work) (k : Conn) (c : Connect) (client : List ℕ) (config : HubConfig) (clock next : ℕ) (r v u : HubTables) (own : BrokerSession)
     (did mid says : List Act) (named : is_anonymous c ≡ false) (kept : HubInvariant config next r) (at : stage_of k r.connections.connections ≡ AwaitingConnect)
-    (first : Proceeds policy change r did v mid) (begun : IsNewSession c client (hub_of config clock next r) own) (rest : u ≡ record v { sessions = u.sessions; connections = u.connections })
+    (first : Proceeds rules change r did v mid) (begun : IsNewSession c client (hub_of config clock next r) own) (rest : u ≡ record v { sessions = u.sessions; connections = u.connections })
     (list : u.sessions.list ≡ v.sessions.list ++ own ∷ [])
     (connections : u.connections.connections ≡ with_connection (λ x. record x { stage = stage_by next c clock }) k v.connections.connections) where
   pub keeps_anew : IsWillWithin config.limits.most c.will → u.connections.limits ≡ v.connections.limits → next < 2 ^ 32 → HubInvariant config (next + 1) u
@@ -141,7 +147,7 @@ module _ (policy : WhenFull) (change : Bool → Work → Work) (k : Conn) (c : C
       keeps_begun k c client named config clock next v u (first.keeps config next kept) (first.fresh k at) own begun.end begun.after begun.fresh
       (ap (λ (a : HubTables). a.rows) rest) (ap (λ (a : HubTables). a.retained.messages) rest) list connections will limits low begun.capacity begun.limit
 
-  pub goes_anew : config.when_full ≡ policy → says ≡ mid ++ acts.Up k next false ∷ []
+  pub goes_anew : rules_of config ≡ rules → says ≡ mid ++ acts.Up k next false ∷ []
       → (fits : Bool) × Refines (λ w. start_session k c client (change fits w)) (hub_of config clock next r) did (hub_of config clock (next + 1) u) says
   goes_anew same said =
       let h : HubState = hub_of config clock next r in

@@ -8,12 +8,12 @@ use Rattle.mq_route.specs.declared.act.Act.{Act}
 use Rattle.mq_route.specs.declared.act.Act.TheVariants as acts
 use Rattle.mq_route.specs.declared.close.HubClose.{HubClose}
 use Rattle.mq_route.specs.declared.config.HubConfig.{HubConfig}
-use Rattle.mq_route.specs.declared.config.WhenFull.{WhenFull}
 use Rattle.mq_route.specs.declared.conn.Conn.{Conn}
 use Rattle.mq_route.specs.declared.connection_state.ConnectionState.TheVariants.{AwaitingConnect}
 use Rattle.mq_route.specs.Arrives.{resume_session}
 use Rattle.mq_route.specs.Hub.{HubState, is_clean, key_on, stage_of, up_on, with_connection}
 use Rattle.mq_route.specs.Work.{Work}
+use Rattle.mq_hub.specs.declared.publish.rules.CopyRules.{CopyRules}
 use Rattle.mq_hub.specs.declared.sessions.session.BrokerSession.{BrokerSession}
 use Rattle.mq_hub.specs.Inside.Requests.{AreAlike}
 use Rattle.mq_hub.specs.Inside.Refinement.{Refines}
@@ -25,6 +25,7 @@ use Rattle.mq_hub.specs.Inside.TableSteps.{AreHubTables, Proceeds}
 use Rattle.mq_hub.specs.Inside.ConnectRoom.{left, HasConnected}
 use Rattle.mq_hub.specs.Inside.View.{HubTables, hub_of}
 use Rattle.mq_hub.specs.Inside.Sessions.{session_at, with_server}
+use Rattle.mq_hub.specs.Inside.Rules.{rules_of}
 use Rattle.mq_hub.proofs.TakenOutput.{backed_at}
 use Rattle.mq_hub.proofs.Refinements.{goes_then}
 use Rattle.mq_hub.proofs.InvariantChanges.{kept_by}
@@ -77,10 +78,10 @@ same_left key e (t ∷ ts) = ap₂ (λ (x : BrokerSession) (xs : List BrokerSess
     one false = refl
 
 -- a part of the step also leads to tables that are the same except for room
-proceeds_alike : (policy : WhenFull) (change : Bool → Work → Work) (t v w : HubTables) (did says : List Act) → AreAlike v w → w.sessions.room ≡ v.sessions.room
-    → Proceeds policy change t did v says
-    → Proceeds policy change t did w says
-proceeds_alike policy change t v w did says alike room p = record {
+proceeds_alike : (rules : CopyRules) (change : Bool → Work → Work) (t v w : HubTables) (did says : List Act) → AreAlike v w → w.sessions.room ≡ v.sessions.room
+    → Proceeds rules change t did v says
+    → Proceeds rules change t did w says
+proceeds_alike rules change t v w did says alike room p = record {
   goes = λ config clock next kept same.
       let q = p.goes config clock next kept same in (
         q.0,
@@ -116,17 +117,17 @@ module _ (k : Conn) (why : HubClose) (key : ℕ) (t v : HubTables) (hubs : AreHu
   pub none_up_with : up_on key v.connections.connections ≡ None
   none_up_with = up_none k why key t bare hubs up bare_list connections limits room up_room bare_rest
 
-  pub proceeds_with : (policy : WhenFull) (did says : List Act) → is_clean (stage_of k t.connections.connections) ≡ false → says ≡ did ++ acts.Closed k why ∷ []
-      → Proceeds policy (λ fits. parts k why key false) t did v says
-  proceeds_with policy did says lasts said =
-      proceeds_alike policy (λ fits. parts k why key false) t bare v did says
+  pub proceeds_with : (rules : CopyRules) (did says : List Act) → is_clean (stage_of k t.connections.connections) ≡ false → says ≡ did ++ acts.Closed k why ∷ []
+      → Proceeds rules (λ fits. parts k why key false) t did v says
+  proceeds_with rules did says lasts said =
+      proceeds_alike rules (λ fits. parts k why key false) t bare v did says
       (record { rows = refl; retained = refl; sessions = ap (map roomless) detach.after ∙ same_left key detach.session.end t.sessions.list; connections = refl }) refl
-      (proceeds_parted k why key t bare hubs up bare_list connections limits room up_room bare_rest policy did says lasts said)
+      (proceeds_parted k why key t bare hubs up bare_list connections limits room up_room bare_rest rules did says lasts said)
 
 -- ---- the connection is connected
 
-module _ (policy : WhenFull) (change : Bool → Work → Work) (k : Conn) (c : Connect) (key : ℕ) (config : HubConfig) (clock next : ℕ) (r v u : HubTables) (did mid says : List Act)
-    (named : is_anonymous c ≡ false) (kept : HubInvariant config next r) (at : stage_of k r.connections.connections ≡ AwaitingConnect) (first : Proceeds policy change r did v mid)
+module _ (rules : CopyRules) (change : Bool → Work → Work) (k : Conn) (c : Connect) (key : ℕ) (config : HubConfig) (clock next : ℕ) (r v u : HubTables) (did mid says : List Act)
+    (named : is_anonymous c ≡ false) (kept : HubInvariant config next r) (at : stage_of k r.connections.connections ≡ AwaitingConnect) (first : Proceeds rules change r did v mid)
     (away : up_on key v.connections.connections ≡ None) (greeted : HasConnected c clock key v.sessions.list u.sessions.list)
     (rest : u ≡ record v { sessions = u.sessions; connections = u.connections })
     (connections : u.connections.connections ≡ with_connection (λ x. record x { stage = stage_by key c clock }) k v.connections.connections) where
@@ -135,7 +136,7 @@ module _ (policy : WhenFull) (change : Bool → Work → Work) (k : Conn) (c : C
       keeps_greeted k c key named config clock next v u (first.keeps config next kept) away (first.fresh k at) greeted (ap (λ (a : HubTables). a.rows) rest)
       (ap (λ (a : HubTables). a.retained.messages) rest) connections will limits
 
-  pub goes_over : config.when_full ≡ policy → c.clean_session ≡ false → says ≡ mid ++ acts.Up k key true ∷ []
+  pub goes_over : rules_of config ≡ rules → c.clean_session ≡ false → says ≡ mid ++ acts.Up k key true ∷ []
       → (fits : Bool) × Refines (λ w. resume_session k c key (change fits w)) (hub_of config clock next r) did (hub_of config clock next u) says
   goes_over same going said =
       let h : HubState = hub_of config clock next r in

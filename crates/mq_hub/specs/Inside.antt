@@ -7,6 +7,7 @@ pub mod ConnectChecks
 pub mod ConnectRoom
 pub mod Connections
 pub mod DeliveryPlan
+pub mod Expiry
 pub mod Settlement
 pub mod Input
 pub mod Invariant
@@ -18,6 +19,7 @@ pub mod Reception
 pub mod Refinement
 pub mod Requests
 pub mod Retained
+pub mod Rules
 pub mod Sessions
 pub mod Subscriptions
 pub mod TableSteps

@@ -16,6 +16,8 @@ use mq_wire::Text;
 pub struct HubCounts {
     /// The number of sessions (3.1.2.4).
     pub sessions: usize,
+    /// The number of subscriptions (3.8.4).
+    pub subscriptions: usize,
     /// The number of retained messages (3.3.1.3).
     pub retained: usize,
     /// The number of messages of QoS 1 and 2 that sessions store: those not yet sent, and those
@@ -50,11 +52,13 @@ impl<S: FilterStore> HubOver<S> {
     /// Returns numbers for gauges. The cost is linear in the number of sessions.
     pub fn counts(&self) -> HubCounts
         ensures sessions { result.sessions ≡ length self.now.sessions }
+        ensures subscriptions { result.subscriptions ≡ min (length self.now.rows) (2 ^ 64 - 1) }
         ensures retained { result.retained ≡ length self.now.retained }
         ensures stored { result.stored ≡ min (stored_in self.now.sessions) (2 ^ 64 - 1) }
     {
         HubCounts {
             sessions: self.tables.sessions.len(),
+            subscriptions: self.tables.store.len(),
             retained: self.tables.retained.len(),
             stored: self.tables.sessions.stored(),
         }

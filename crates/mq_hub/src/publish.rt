@@ -7,4 +7,6 @@ pub(crate) mod on_publish;
 pub(crate) mod reception;
 pub(crate) mod recipients;
 pub(crate) mod reserve;
+pub(crate) mod rules;
 pub(crate) mod settle;
+pub(crate) mod space;

@@ -1,6 +1,6 @@
 //! Runs a broker over a list of events.
 
-ghost use Rattle.std.specs.Prelude.{◌≡◌, ℕ, ◌<◌, ◌⊎◌, [], length, Ok, Err, IfOk, IfErr, IfSome};
+ghost use Rattle.std.specs.Prelude.{◌≡◌, ℕ, ◌<◌, ◌⊎◌, [], length, Ok, Err, IfOk, IfErr, IfSome, None};
 ghost use Rattle.std.specs.List.{flat_map};
 ghost use Rattle.mq_route.specs.Hub.{new_hub};
 ghost use Rattle.mq_flow.specs.Receiver.{none_received};
@@ -85,7 +85,8 @@ pub fn hub_run_over<S: FilterStore + Drop>(
     requires window { IfSome config.window (λ window. 0 < window) }
     ensures run { IfOk result (λ r. IsRun config events.now r.0 r.1) }
     ensures settled { IfOk result (λ r. (c : ℕ) → settled c (acts_in r.1) ≡ routed c (acts_in r.1)) }
-    ensures routed { config.when_full ≡ WhenFull.ClosePublisher → IfOk result (λ r. (c : ℕ) → placed c (acts_in r.1) ≡ routed c (acts_in r.1)) }
+    ensures routed { config.when_full ≡ WhenFull.ClosePublisher → config.most_waiting ≡ None
+        → IfOk result (λ r. (c : ℕ) → placed c (acts_in r.1) ≡ routed c (acts_in r.1)) }
     ensures taken { IfOk result (λ r. (run : IsRun config events.now r.0 r.1) (c : ℕ)
         → taken c (acts_in r.1) ≡ handed_from none_received (of_client c (came_in run.episodes))) }
     ensures err { IfErr result (λ why. (why ≡ HubRefusal.Memory) ⊎ IsRefused (new_hub config) events.now why) }
@@ -107,7 +108,8 @@ pub fn hub_run(
     requires window { IfSome config.window (λ window. 0 < window) }
     ensures run { IfOk result (λ r. IsRun config events.now r.0 r.1) }
     ensures settled { IfOk result (λ r. (c : ℕ) → settled c (acts_in r.1) ≡ routed c (acts_in r.1)) }
-    ensures routed { config.when_full ≡ WhenFull.ClosePublisher → IfOk result (λ r. (c : ℕ) → placed c (acts_in r.1) ≡ routed c (acts_in r.1)) }
+    ensures routed { config.when_full ≡ WhenFull.ClosePublisher → config.most_waiting ≡ None
+        → IfOk result (λ r. (c : ℕ) → placed c (acts_in r.1) ≡ routed c (acts_in r.1)) }
     ensures taken { IfOk result (λ r. (run : IsRun config events.now r.0 r.1) (c : ℕ)
         → taken c (acts_in r.1) ≡ handed_from none_received (of_client c (came_in run.episodes))) }
     ensures err { IfErr result (λ why. (why ≡ HubRefusal.Memory) ⊎ IsRefused (new_hub config) events.now why) }

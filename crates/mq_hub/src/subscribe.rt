@@ -14,6 +14,7 @@ ghost use Rattle.mq_route.specs.Work.{close, have_room, retained_copies};
 ghost use Rattle.mq_hub.specs.Inside.Requests.{AreAlike, Subscribes};
 ghost use Rattle.mq_hub.specs.Inside.Calls.{CanServe};
 ghost use Rattle.mq_hub.specs.Inside.Refinement.{Refines};
+ghost use Rattle.mq_hub.specs.Inside.Rules.{rules_of};
 ghost use Rattle.mq_hub.specs.Inside.Placement.{HasSessions, IsFor};
 ghost use Rattle.mq_hub.specs.Inside.Subscriptions.{subscribed_acts};
 
@@ -21,13 +22,13 @@ use crate::acts::ActLog;
 use crate::hub::HubOver;
 use crate::publish::delivery::push_all;
 use crate::publish::enqueue::{place_for, retained_copies};
+use crate::publish::rules::{CopyRules, rules_of};
 use crate::publish::settle::{SettledMessages, settle_for};
 use crate::sessions::call::Call;
 use crate::subscriptions::{push_subscribed, set_rows};
 use crate::tables::Tables;
-use mq_end::size_laws;
+use mq_end::{packet_len, size_laws};
 use mq_packet::{NonEmpty, PacketId, Request, SubAckCode};
-use mq_route::WhenFull;
 use mq_topic::{ClientKey, FilterStore};
 use std::alloc::{AllocError, Global};
 
@@ -47,13 +48,13 @@ fn granted(alloc: Global, requests: &[Request]) -> Result<Vec<SubAckCode>, Alloc
 
 impl<S: FilterStore> Tables<S> {
     /// Subscribes a client (3.8.4): its subscriptions are set, SUBACK is queued, and the retained
-    /// messages are placed. If its session has too few free identifiers for them (2.3.1), the ones
-    /// without room are missed, or `false` is returned, as `when_full` says. Then, and on `Err`,
-    /// only reserved capacity may have changed.
+    /// messages are placed or missed. Returns `false` if its session has no room for them (2.3.1)
+    /// and the rules do not drop those without room. Then, and on `Err`, only reserved capacity may
+    /// have changed.
     pub(crate) fn subscribe(
         &mut self,
         alloc: Global,
-        when_full: WhenFull,
+        rules: CopyRules,
         key: ClientKey,
         id: PacketId,
         requests: NonEmpty<Request>,
@@ -61,9 +62,9 @@ impl<S: FilterStore> Tables<S> {
     ) -> Result<bool, AllocError>
         requires can { CanServe key (Call.Grants id (granted requests)) self.old.sessions.list }
         requires due { (ms : List Message) → for_key key ms ≡ retained_copies key requests self.old.retained.messages → IsFor key ms self.old.sessions.list }
-        ensures enough { IfOk result (λ enough. (h : HubState) → HasSessions self.old.sessions.list h → h.config.when_full ≡ when_full
+        ensures enough { IfOk result (λ enough. (h : HubState) → HasSessions self.old.sessions.list h → rules_of h.config ≡ rules
             → have_room (retained_copies key requests self.old.retained.messages) h ≡ enough) }
-        ensures done { result ≡ Ok true → (says : List Act) × Subscribes key id requests when_full self.old self.new says
+        ensures done { result ≡ Ok true → (says : List Act) × Subscribes key id requests rules self.old self.new says
             × (log.new.acts ≡ (log.old.acts ++ subscribed_acts key requests) ++ says) }
         ensures room { result ≡ Ok true → 3 ≤ log.new.room }
         ensures full { result ≡ Ok false → AreAlike self.old self.new }
@@ -79,7 +80,16 @@ impl<S: FilterStore> Tables<S> {
         let count = requests.as_slice().len();
         log.reserve(count + messages.len() + 3)?;
         let more = SUBACK + count;
-        let Some(settled) = settle_for(alloc, &mut self.sessions, when_full, key, messages, more)?
+        let queued = packet_len(2 + count);
+        let Some(settled) = settle_for(
+            alloc,
+            &mut self.sessions,
+            rules,
+            key,
+            messages,
+            queued,
+            more,
+        )?
         else {
             return Ok(false);
         };
@@ -96,9 +106,9 @@ impl<S: FilterStore> Tables<S> {
 }
 
 impl<S: FilterStore> HubOver<S> {
-    /// Subscribes a connected client (3.8.4). If its session has too few free identifiers for the
-    /// retained messages (2.3.1), the ones without room are missed, or `false` is returned, with
-    /// nothing changed, as the configuration says.
+    /// Subscribes a connected client (3.8.4). If its session has no room for the retained messages
+    /// (2.3.1), those without room are missed, or `false` is returned, with nothing changed, as the
+    /// configuration says.
     pub(crate) fn on_subscribe(
         &mut self,
         key: ClientKey,
@@ -125,8 +135,7 @@ impl<S: FilterStore> HubOver<S> {
         ensures err_room { OnErr result (log.old.room ≤ log.new.room) }
     {
         let alloc = self.alloc;
-        let when_full = self.config.when_full;
-        self.tables
-            .subscribe(alloc, when_full, key, id, requests, log)
+        let rules = rules_of(&self.config);
+        self.tables.subscribe(alloc, rules, key, id, requests, log)
     }
 }

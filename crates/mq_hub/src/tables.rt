@@ -6,7 +6,7 @@ ghost use Rattle.mq_hub.specs.Inside.Connections.{IsDecoding};
 ghost use Rattle.mq_hub.specs.Inside.Output.{CollectsAt};
 ghost use Rattle.mq_hub.specs.Inside.Input.{touched_at, holds};
 ghost use Rattle.mq_hub.specs.Inside.Close.{left_with, parted};
-ghost use Rattle.mq_hub.specs.Inside.Sessions.{sessions_of, session_at, with_server, without_key};
+ghost use Rattle.mq_hub.specs.Inside.Sessions.{marked_at, sessions_of, session_at, with_server, without_key};
 ghost use Rattle.mq_topic.specs.Rows.{without_client};
 
 use crate::connections::connection::BoxedConnection;
@@ -176,6 +176,15 @@ impl<S: FilterStore> Tables<S> {
         ensures rest { self.new ≡ record self.old { connections = self.new.connections } }
     {
         self.connections.swap_decoder(conn, decoder);
+    }
+
+    /// Stores this time as that of a client's last disconnect, if it has a session of this key.
+    pub(crate) fn mark_left(&mut self, key: ClientKey, now: u64)
+        ensures list { self.new.sessions.list ≡ marked_at key now self.old.sessions.list }
+        ensures room { self.new.sessions.room ≡ self.old.sessions.room }
+        ensures rest { self.new ≡ record self.old { sessions = self.new.sessions } }
+    {
+        self.sessions.mark_left(key, now);
     }
 
     /// Ends a session, with its subscriptions (3.1.2.4).

@@ -30,8 +30,6 @@ mod laws;
 mod memory;
 mod reader;
 mod sum;
-#[cfg(test)]
-mod tests;
 
 pub use crate::disk::{Disk, DiskError};
 pub use crate::freezing::FreezingDisk;

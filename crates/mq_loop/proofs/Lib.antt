@@ -1,3 +1,4 @@
+pub mod Ages
 pub mod CarriedBytes
 pub mod Counts
 pub mod Names
@@ -5,4 +6,5 @@ pub mod Noting
 pub mod Outcomes
 pub mod Outputs
 pub mod Sent
+pub mod Calling
 pub mod Watching

@@ -1,5 +1,5 @@
 -- The output of each connection after a call.
-use Rattle.std.proofs.Common.{◌≡◌, ◌≢◌, ◌<◌, ◌||◌, inl, inr, ℕ, Bool, true, false, List, [], ◌∷◌, length, set, Option, Some, None, IfSome, is_some, cond, eqb, eqb-true, eq-eqb, true≢false, refl, sym, ap, ap₂, subst, ◌∙◌}
+use Rattle.std.proofs.Common.{◌≡◌, ◌≢◌, ◌<◌, ◌≤◌, ◌||◌, inl, inr, ℕ, Bool, true, false, List, [], ◌∷◌, length, set, Option, Some, None, IfSome, is_some, cond, eqb, eqb-true, eq-eqb, true≢false, refl, sym, ap, ap₂, subst, ◌∙◌, arith}
 use Rattle.std.proofs.lemmas.Bool.{cond-true, cond-false}
 use Rattle.std.proofs.lemmas.List.{set-get_or}
 use Rattle.std.specs.Prelude.{slice_index_or}
@@ -13,7 +13,7 @@ use Rattle.mq_route.specs.Work.{Work}
 use Rattle.mq_loop.specs.declared.connection.Flushed.{Flushed}
 use Rattle.mq_loop.specs.declared.connection.Flushed.TheVariants.{All, Blocked, Failed}
 use Rattle.mq_loop.specs.Accounts.{Line, line_at, name_at}
-use Rattle.mq_loop.specs.Rounds.{AtOutputs, Collects, IsFlushed, IsWritten, Output, OthersStay, OutputStays, exists_at, output_at, output_of}
+use Rattle.mq_loop.specs.Rounds.{AtOutputs, Collects, IsFlushed, IsFull, IsWritten, Output, OthersStay, OutputStays, exists_at, output_at, output_of}
 use Rattle.mq_loop.proofs.CarriedBytes.{set_same, set_other}
 
 pub output_same : (lines : List (Option Line)) (q : ℕ) (x : Option Line) → q < length lines → output_at q (set lines q x) ≡ output_of x
@@ -107,16 +107,17 @@ collect_empties k h g reply step =
     ap (λ (x : HubState). waiting_on k x.connections) step.after
     ∙ (ap (λ (w : Work). waiting_on k w.hub.connections) step.does.0 ∙ nothing_left k h.connections)
 
--- output that is written as far as its socket takes it
-pub given_full : (waiting : List ℕ) (o p : Option Output) → IfSome o (λ x. false ≡ x.finished) → AtOutputs o p (IsFlushed Blocked) → IfSome p (IsWritten waiting)
-given_full waiting None None fresh flushed = tt
-given_full waiting None (Some y) fresh flushed = absurd flushed
-given_full waiting (Some x) None fresh flushed = absurd flushed
-given_full waiting (Some x) (Some y) fresh flushed = (flushed.1 ∙ sym fresh, inl flushed.0)
+-- a socket that takes no byte
+pub given_full : (o p : Option Output) → IfSome o (λ x. false ≡ x.finished) → AtOutputs o p (IsFlushed Blocked) → IfSome p IsFull
+given_full None None fresh flushed = tt
+given_full None (Some y) fresh flushed = absurd flushed
+given_full (Some x) None fresh flushed = absurd flushed
+given_full (Some x) (Some y) fresh flushed = (flushed.1 ∙ sym fresh, flushed.0)
 
+-- output that is written as far as its socket takes it
 pub given_written : (waiting : List ℕ) (r : Flushed) (o p q s : Option Output) → IfSome o (λ x. false ≡ x.finished) → AtOutputs o p (IsFlushed All)
     → AtOutputs p q (λ old new. new.finished ≡ old.finished) → AtOutputs q s (IsFlushed r) → (r ≡ Failed → ⊥)
-    → (is_some p ≡ true → waiting ≡ []) → IfSome s (IsWritten waiting)
+    → (is_some p ≡ true → waiting ≡ []) → IfSome s (IsWritten 0 waiting)
 given_written waiting r o p q None fresh flushed collected again sound empty = tt
 given_written waiting r o p None (Some w) fresh flushed collected again sound empty = absurd again
 given_written waiting r o None (Some z) (Some w) fresh flushed collected again sound empty = absurd collected
@@ -127,10 +128,23 @@ given_written waiting r (Some x) (Some y) (Some z) (Some w) fresh flushed collec
     before : z.finished ≡ false
     before = collected ∙ (flushed.1 ∙ sym fresh)
 
-    last : (r : Flushed) → IsFlushed r z w → (r ≡ Failed → ⊥) → IsWritten waiting w
-    last All f sound = (f.1 ∙ before, inr (empty refl, f.0))
-    last Blocked f sound = (f.1 ∙ before, inl f.0)
+    none : length waiting ≤ 0
+    none = let e : length waiting ≡ 0 = ap (λ (l : List ℕ). length l) (empty refl) in omega arith
+
+    last : (r : Flushed) → IsFlushed r z w → (r ≡ Failed → ⊥) → IsWritten 0 waiting w
+    last All f sound = (f.1 ∙ before, none, inr (empty refl, f.0))
+    last Blocked f sound = (f.1 ∙ before, none, inl f.0)
     last Failed f sound = absurd (sound refl)
+
+-- output within the limit 0 is within any limit; a socket that takes no byte may leave this number
+-- of bytes pending
+pub written_within : (most : ℕ) (waiting : List ℕ) (o : Option Output) → IfSome o (IsWritten 0 waiting) → IfSome o (IsWritten most waiting)
+written_within most waiting None w = tt
+written_within most waiting (Some x) w = let none : length waiting ≤ 0 = w.1 in (w.0, omega arith, w.2)
+
+pub full_within : (most : ℕ) (waiting : List ℕ) (o : Option Output) → IfSome o IsFull → length waiting ≤ most → IfSome o (IsWritten most waiting)
+full_within most waiting None f within = tt
+full_within most waiting (Some x) f within = (f.0, within, inl f.1)
 
 -- output that is kept was not written in full, so that there is no connection
 pub none_kept : (o p : Option Output) → AtOutputs o p (IsFlushed All) → IfSome p (λ x. x.kept ≡ [] → ⊥) → is_some p ≡ false

@@ -18,9 +18,10 @@ use Rattle.mq_route.specs.Routed.{same_conn, seen}
 use Rattle.mq_route.specs.Runs.{Episode, Follows, acts_of, is_on}
 use Rattle.mq_route.specs.Step.{HubStep}
 use Rattle.mq_loop.specs.Accounts.{IsServed, Line, ServedState, name_at, served_state}
+use Rattle.mq_loop.specs.Calls.{Call}
 use Rattle.mq_loop.specs.Places.{count_in, is_in}
-use Rattle.mq_loop.specs.Rounds.{AllIn, AreEnded, AreNotedAt, IsEmpty, IsNoted, IsReached, IsSame, IsSettled, IsWatched, IsWritten, IsWrittenAt, MayCollect, OthersStay, Output, OutputStays}
-use Rattle.mq_loop.specs.Rounds.{WatchedState, connections_in, ends_left, exists_at, is_copy_for, output_at, watched_state}
+use Rattle.mq_loop.specs.Rounds.{AllIn, AreBounded, AreEnded, AreNotedAt, IsEmpty, IsNoted, IsReached, IsSame, IsSettled, IsWatched, IsWritten, IsWrittenAt, MayCollect, OthersStay, Output, OutputStays}
+use Rattle.mq_loop.specs.Rounds.{WatchedState, connections_in, ends_left, exists_at, is_copy_for, output_at, waiting_at, watched_state}
 use Rattle.mq_loop.proofs.CarriedBytes.{follows_last}
 use Rattle.mq_loop.proofs.Counts.{as_many, in_within}
 use Rattle.mq_loop.proofs.Names.{not_known, one_conn, same_conn-itself, unknown_shut}
@@ -88,15 +89,15 @@ copy_somewhere k h (act ∷ log) e = copy_here k h act log (places_on k h act) r
 
 -- ---- a step
 
-pub step_watched : ClientLaws → OutputLaws → (old new : ServedState) (event : HubEvent) (reply : HubReply) (f f1 : ℕ → Option ℕ) (m o m1 o1 m2 o2 : List Bool)
+pub step_watched : ClientLaws → OutputLaws → (most : ℕ) (old new : ServedState) (event : HubEvent) (reply : HubReply) (f f1 : ℕ → Option ℕ) (m o m1 o1 m2 o2 : List Bool)
     → new.base ≡ old.base → IsReached old.base → IsServed old → HubStep old.hub event reply new.hub → IsNoted reply.acts f m o f1 m1 o1
     → length new.lines ≤ length m → length new.lines ≤ length o → length m2 ≡ length m1 → length o2 ≡ length o1 → AllIn m1 m2 → AllIn o1 o2
     → ((c p : ℕ) → exists_at p new.lines ≡ true → is_for c (stage_of (name_at p) old.hub.connections) ≡ true → (f c ≡ Some p) ⊎ (is_in p o ≡ true))
     → ((p : ℕ) → exists_at p new.lines ≡ true → is_on (name_at p) event ≡ false
-    → (output_at p new.lines ≡ output_at p old.lines) × (IsWrittenAt p old ⊎ ((is_in p m ≡ true) ⊎ (is_in p o ≡ true))))
-    → ((p : ℕ) → exists_at p new.lines ≡ true → is_on (name_at p) event ≡ true → IsWrittenAt p new ⊎ ((is_in p m2 ≡ true) ⊎ (is_in p o2 ≡ true)))
-    → IsWatched new f1 m2 o2
-step_watched clients outputs old new event reply f f1 m o m1 o1 m2 o2 based reached served step noted wm wo lm lo gm go_ was before own = record {
+    → (output_at p new.lines ≡ output_at p old.lines) × (IsWrittenAt most p old ⊎ ((is_in p m ≡ true) ⊎ (is_in p o ≡ true))))
+    → ((p : ℕ) → exists_at p new.lines ≡ true → is_on (name_at p) event ≡ true → IsWrittenAt most p new ⊎ ((is_in p m2 ≡ true) ⊎ (is_in p o2 ≡ true)))
+    → IsWatched most new f1 m2 o2
+step_watched clients outputs most old new event reply f f1 m o m1 o1 m2 o2 based reached served step noted wm wo lm lo gm go_ was before own = record {
   reached = subst IsReached (sym based) reached;
   marked_places = subst (λ (n : ℕ). length new.lines ≤ n) (sym (lm ∙ noted.marked_places)) wm;
   over_places = subst (λ (n : ℕ). length new.lines ≤ n) (sym (lo ∙ noted.over_places)) wo;
@@ -132,7 +133,7 @@ step_watched clients outputs old new event reply f f1 m o m1 o1 m2 o2 based reac
 
     -- another connection than that of the event
     elsewhere : (p : ℕ) → exists_at p new.lines ≡ true → is_on (name_at p) event ≡ false → (b : Bool) → list_any (places_on (name_at p) old.hub) reply.acts ≡ b
-        → IsWrittenAt p new ⊎ ((is_in p m2 ≡ true) ⊎ (is_in p o2 ≡ true))
+        → IsWrittenAt most p new ⊎ ((is_in p m2 ≡ true) ⊎ (is_in p o2 ≡ true))
     elsewhere p there other true copies =
         let within : p < length m = let below = exists_within p new.lines there in omega arith in
         let c = copy_somewhere (name_at p) old.hub reply.acts copies in
@@ -141,29 +142,29 @@ step_watched clients outputs old new event reply f f1 m o m1 o1 m2 o2 based reac
         let same : waiting_on (name_at p) new.hub.connections ≡ waiting_on (name_at p) old.hub.connections =
         outputs.others_unchanged reached.config es old.hub runs event reply new.hub step (name_at p) other none in
         let pair = before p there other in
-        let still : IsWrittenAt p old → IsWrittenAt p new =
-        λ written. subst (λ (x : Option Output). IfSome x (IsWritten (waiting_on (name_at p) new.hub.connections))) (sym pair.0)
-        (subst (λ (bytes : List ℕ). IfSome (output_at p old.lines) (IsWritten bytes)) (sym same) written) in
+        let still : IsWrittenAt most p old → IsWrittenAt most p new =
+        λ written. subst (λ (x : Option Output). IfSome x (IsWritten most (waiting_on (name_at p) new.hub.connections))) (sym pair.0)
+        (subst (λ (bytes : List ℕ). IfSome (output_at p old.lines) (IsWritten most bytes)) (sym same) written) in
         ⊎_elim (λ written. inl (still written)) (λ rest. inr (⊎_elim (λ x. inl (marked_later p x)) (λ x. inr (over_later p x)) rest)) pair.1
 
-    at : (p : ℕ) (b : Bool) → exists_at p new.lines ≡ b → IsWrittenAt p new ⊎ ((is_in p m2 ≡ true) ⊎ (is_in p o2 ≡ true))
-    at p false none = inl (unwritten (output_at p new.lines) (IsWritten (waiting_on (name_at p) new.hub.connections)) none)
+    at : (p : ℕ) (b : Bool) → exists_at p new.lines ≡ b → IsWrittenAt most p new ⊎ ((is_in p m2 ≡ true) ⊎ (is_in p o2 ≡ true))
+    at p false none = inl (unwritten (output_at p new.lines) (IsWritten most (waiting_on (name_at p) new.hub.connections)) none)
     at p true there = on (is_on (name_at p) event) refl
       where
-        on : (b : Bool) → is_on (name_at p) event ≡ b → IsWrittenAt p new ⊎ ((is_in p m2 ≡ true) ⊎ (is_in p o2 ≡ true))
+        on : (b : Bool) → is_on (name_at p) event ≡ b → IsWrittenAt most p new ⊎ ((is_in p m2 ≡ true) ⊎ (is_in p o2 ≡ true))
         on true here = own p there here
         on false other = elsewhere p there other (list_any (places_on (name_at p) old.hub) reply.acts) refl
 
 -- ---- no step
 
 -- notes with more marks, and connections with another output at one place
-pub still_watched : (old new : ServedState) (f : ℕ → Option ℕ) (m o m2 o2 : List Bool) (q : ℕ) → IsWatched old f m o
+pub still_watched : (most : ℕ) (old new : ServedState) (f : ℕ → Option ℕ) (m o m2 o2 : List Bool) (q : ℕ) → IsWatched most old f m o
     → new.base ≡ old.base → new.hub ≡ old.hub → length new.lines ≡ length old.lines → length m2 ≡ length m → length o2 ≡ length o → AllIn o o2
     → ((p : ℕ) → (p ≡ q → ⊥) → is_in p m ≡ true → is_in p m2 ≡ true)
     → ((p : ℕ) → (p ≡ q → ⊥) → output_at p new.lines ≡ output_at p old.lines) → exists_at q new.lines ≡ exists_at q old.lines
-    → (exists_at q new.lines ≡ true → IsWrittenAt q new ⊎ ((is_in q m2 ≡ true) ⊎ (is_in q o2 ≡ true)))
-    → IsWatched new f m2 o2
-still_watched old new f m o m2 o2 q w based still ln lm lo grows marks others there own = record {
+    → (exists_at q new.lines ≡ true → IsWrittenAt most q new ⊎ ((is_in q m2 ≡ true) ⊎ (is_in q o2 ≡ true)))
+    → IsWatched most new f m2 o2
+still_watched most old new f m o m2 o2 q w based still ln lm lo grows marks others there own = record {
   reached = subst IsReached (sym based) w.reached;
   marked_places = let a = w.marked_places in subst (λ (n : ℕ). length new.lines ≤ n) (sym lm) (subst (λ (n : ℕ). n ≤ length m) (sym ln) a);
   over_places = let a = w.over_places in subst (λ (n : ℕ). length new.lines ≤ n) (sym lo) (subst (λ (n : ℕ). n ≤ length o) (sym ln) a);
@@ -178,24 +179,24 @@ still_watched old new f m o m2 o2 q w based still ln lm lo grows marks others th
     same_exists p true e = let same : p ≡ q = eqb-true p q e in subst (λ (n : ℕ). exists_at n new.lines ≡ exists_at n old.lines) (sym same) there
     same_exists p false e = ap is_some (others p (apart p e))
 
-    here : (b : Bool) → exists_at q new.lines ≡ b → IsWrittenAt q new ⊎ ((is_in q m2 ≡ true) ⊎ (is_in q o2 ≡ true))
+    here : (b : Bool) → exists_at q new.lines ≡ b → IsWrittenAt most q new ⊎ ((is_in q m2 ≡ true) ⊎ (is_in q o2 ≡ true))
     here true e = own e
-    here false e = inl (unwritten (output_at q new.lines) (IsWritten (waiting_on (name_at q) new.hub.connections)) e)
+    here false e = inl (unwritten (output_at q new.lines) (IsWritten most (waiting_on (name_at q) new.hub.connections)) e)
 
-    at : (p : ℕ) (b : Bool) → eqb p q ≡ b → IsWrittenAt p new ⊎ ((is_in p m2 ≡ true) ⊎ (is_in p o2 ≡ true))
+    at : (p : ℕ) (b : Bool) → eqb p q ≡ b → IsWrittenAt most p new ⊎ ((is_in p m2 ≡ true) ⊎ (is_in p o2 ≡ true))
     at p true e =
         let same : p ≡ q = eqb-true p q e in
-        subst (λ (n : ℕ). IsWrittenAt n new ⊎ ((is_in n m2 ≡ true) ⊎ (is_in n o2 ≡ true))) (sym same) (here (exists_at q new.lines) refl)
+        subst (λ (n : ℕ). IsWrittenAt most n new ⊎ ((is_in n m2 ≡ true) ⊎ (is_in n o2 ≡ true))) (sym same) (here (exists_at q new.lines) refl)
     at p false e =
-        ⊎_elim (λ x. inl (subst (λ (y : Option Output). IfSome y (IsWritten (waiting_on (name_at p) new.hub.connections))) (sym (others p (apart p e)))
-        (subst (λ (h : HubState). IfSome (output_at p old.lines) (IsWritten (waiting_on (name_at p) h.connections))) (sym still) x)))
+        ⊎_elim (λ x. inl (subst (λ (y : Option Output). IfSome y (IsWritten most (waiting_on (name_at p) new.hub.connections))) (sym (others p (apart p e)))
+        (subst (λ (h : HubState). IfSome (output_at p old.lines) (IsWritten most (waiting_on (name_at p) h.connections))) (sym still) x)))
         (λ rest. inr (⊎_elim (λ x. inl (marks p (apart p e) x)) (λ x. inr (grows p x)) rest)) (w.written p)
 
 pub new_reached : (config : HubConfig) → IsReached (new_hub config)
 new_reached config = record { config = config; before = []; follows = refl }
 
-pub new_watched : (h : HubState) (committed : Bool) (f : ℕ → Option ℕ) → IsReached h → IsWatched (served_state h h [] committed) f [] []
-new_watched h committed f reached = record {
+pub new_watched : (most : ℕ) (h : HubState) (committed : Bool) (calls : Option (List Call)) (f : ℕ → Option ℕ) → IsReached h → IsWatched most (served_state h h [] committed calls) f [] []
+new_watched most h committed calls f reached = record {
   reached = reached;
   marked_places = omega arith;
   over_places = omega arith;
@@ -210,12 +211,24 @@ apart_in m q p apart x = get_or-set_other m q p false false apart ∙ x
 -- ---- the end of a round
 
 -- nothing is marked, and nothing is over unless an allocation failed
-pub settled_is : (served : ServedState) (f : ℕ → Option ℕ) (m o : List Bool) (failed : Bool) → IsWatched served f m o
-    → IsEmpty m → AreEnded (watched_state served m o failed) → IsSettled (watched_state served m o failed)
-settled_is served f m o failed w unmarked ended p =
+pub settled_is : (most : ℕ) (served : ServedState) (f : ℕ → Option ℕ) (m o : List Bool) (failed : Bool) → IsWatched most served f m o
+    → IsEmpty m → AreEnded (watched_state served most m o failed) → IsSettled (watched_state served most m o failed)
+settled_is most served f m o failed w unmarked ended p =
     ⊎_elim (λ written. inl written)
     (λ rest. ⊎_elim (λ marked. absurd (true≢false (sym marked ∙ unmarked p)))
     (λ over. inr (over, ⊎_elim (λ empty. absurd (true≢false (sym over ∙ empty p))) (λ x. x) ended)) rest) (w.written p)
+
+-- at most the limit is pending on a connection that is written
+within_limit : (most : ℕ) (waiting : List ℕ) (o : Option Output) → is_some o ≡ true → IfSome o (IsWritten most waiting) → length waiting ≤ most
+within_limit most waiting None there written = absurd (true≢false (sym there))
+within_limit most waiting (Some x) there written = written.1
+
+-- so no connection is owed more than the limit
+pub bounded_is : (most : ℕ) (served : ServedState) (f : ℕ → Option ℕ) (m o : List Bool) (failed : Bool) → IsWatched most served f m o
+    → IsEmpty m → AreEnded (watched_state served most m o failed) → AreBounded (watched_state served most m o failed)
+bounded_is most served f m o failed w unmarked ended p there =
+    ⊎_elim (λ written. inl (within_limit most (waiting_at p served) (output_at p served.lines) there written)) (λ left. inr left)
+    (settled_is most served f m o failed w unmarked ended p)
 
 -- ---- calls
 
@@ -233,21 +246,21 @@ exists_before old new q others here p = go (eqb p q) refl
     go true e = let same : p ≡ q = eqb-true p q e in subst (λ (n : ℕ). exists_at n new ≡ exists_at n old) (sym same) here
     go false e = ap is_some (others p (λ same. true≢false (sym (eq-eqb p q same) ∙ e)))
 
-pub tick_watched : ClientLaws → OutputLaws → (old new : ServedState) (now : ℕ) (reply : HubReply) (f f1 : ℕ → Option ℕ) (m o m1 o1 : List Bool)
-    → IsWatched old f m o → IsServed old → new.base ≡ old.base → new.lines ≡ old.lines → HubStep old.hub (Tick now) reply new.hub → IsNoted reply.acts f m o f1 m1 o1 → IsWatched new f1 m1 o1
-tick_watched clients outputs old new now reply f f1 m o m1 o1 w served based same step noted =
-    step_watched clients outputs old new (Tick now) reply f f1 m o m1 o1 m1 o1 based w.reached served step noted
+pub tick_watched : ClientLaws → OutputLaws → (most : ℕ) (old new : ServedState) (now : ℕ) (reply : HubReply) (f f1 : ℕ → Option ℕ) (m o m1 o1 : List Bool)
+    → IsWatched most old f m o → IsServed old → new.base ≡ old.base → new.lines ≡ old.lines → HubStep old.hub (Tick now) reply new.hub → IsNoted reply.acts f m o f1 m1 o1 → IsWatched most new f1 m1 o1
+tick_watched clients outputs most old new now reply f f1 m o m1 o1 w served based same step noted =
+    step_watched clients outputs most old new (Tick now) reply f f1 m o m1 o1 m1 o1 based w.reached served step noted
     (subst (λ (l : List (Option Line)). length l ≤ length m) (sym same) w.marked_places) (subst (λ (l : List (Option Line)). length l ≤ length o) (sym same) w.over_places)
     refl refl (same_all m1) (same_all o1)
     (λ c p there here. w.noted c p (sym (ap (exists_at p) same) ∙ there) here)
     (λ p there other. (ap (output_at p) same, w.written p))
     (λ p there on. absurd (true≢false (sym on)))
 
-pub read_watched : ClientLaws → OutputLaws → (old new : ServedState) (q : ℕ) (bytes : List ℕ) (reply : HubReply) (f f1 : ℕ → Option ℕ) (m o m1 o1 : List Bool)
-    → IsWatched old f m o → IsServed old → IsSame old new → OthersStay q old.lines new.lines → exists_at q new.lines ≡ exists_at q old.lines
-    → HubStep old.hub (Bytes (name_at q) bytes) reply new.hub → IsNoted reply.acts f m o f1 m1 o1 → IsWatched new f1 (set m1 q true) o1
-read_watched clients outputs old new q bytes reply f f1 m o m1 o1 w served same others here step noted =
-    step_watched clients outputs old new (Bytes (name_at q) bytes) reply f f1 m o m1 o1 (set m1 q true) o1 same.base w.reached served step noted
+pub read_watched : ClientLaws → OutputLaws → (most : ℕ) (old new : ServedState) (q : ℕ) (bytes : List ℕ) (reply : HubReply) (f f1 : ℕ → Option ℕ) (m o m1 o1 : List Bool)
+    → IsWatched most old f m o → IsServed old → IsSame old new → OthersStay q old.lines new.lines → exists_at q new.lines ≡ exists_at q old.lines
+    → HubStep old.hub (Bytes (name_at q) bytes) reply new.hub → IsNoted reply.acts f m o f1 m1 o1 → IsWatched most new f1 (set m1 q true) o1
+read_watched clients outputs most old new q bytes reply f f1 m o m1 o1 w served same others here step noted =
+    step_watched clients outputs most old new (Bytes (name_at q) bytes) reply f f1 m o m1 o1 (set m1 q true) o1 same.base w.reached served step noted
     within (subst (λ (n : ℕ). n ≤ length o) (sym same.places) w.over_places)
     (length-set m1 q true) refl (put_all m1 q) (same_all o1)
     (λ c p there here. w.noted c p (sym (before p) ∙ there) here)
@@ -264,11 +277,11 @@ read_watched clients outputs old new q bytes reply f f1 m o m1 o1 w served same 
     within : length new.lines ≤ length m
     within = subst (λ (n : ℕ). n ≤ length m) (sym same.places) w.marked_places
 
-pub open_watched : ClientLaws → OutputLaws → (old new : ServedState) (q : ℕ) (line : Line) (reply : HubReply) (f f1 : ℕ → Option ℕ) (m o m1 o1 : List Bool)
-    → IsWatched old f m o → IsServed old → IsSame old new → new.lines ≡ set old.lines q (Some line)
-    → HubStep old.hub (Opened (name_at q)) reply new.hub → IsNoted reply.acts f m o f1 m1 o1 → IsWatched new f1 (set m1 q true) o1
-open_watched clients outputs old new q line reply f f1 m o m1 o1 w served same lines step noted =
-    step_watched clients outputs old new (Opened (name_at q)) reply f f1 m o m1 o1 (set m1 q true) o1 same.base w.reached served step noted
+pub open_watched : ClientLaws → OutputLaws → (most : ℕ) (old new : ServedState) (q : ℕ) (line : Line) (reply : HubReply) (f f1 : ℕ → Option ℕ) (m o m1 o1 : List Bool)
+    → IsWatched most old f m o → IsServed old → IsSame old new → new.lines ≡ set old.lines q (Some line)
+    → HubStep old.hub (Opened (name_at q)) reply new.hub → IsNoted reply.acts f m o f1 m1 o1 → IsWatched most new f1 (set m1 q true) o1
+open_watched clients outputs most old new q line reply f f1 m o m1 o1 w served same lines step noted =
+    step_watched clients outputs most old new (Opened (name_at q)) reply f f1 m o m1 o1 (set m1 q true) o1 same.base w.reached served step noted
     within (subst (λ (n : ℕ). n ≤ length o) (sym same.places) w.over_places)
     (length-set m1 q true) refl (put_all m1 q) (same_all o1) was
     (λ p there other. (others p (elsewhere_is p q other), w.written p))
@@ -299,11 +312,11 @@ open_watched clients outputs old new q line reply f f1 m o m1 o1 w served same l
             w.noted c p (sym (exists_same old.lines new.lines p (others p apart)) ∙ there) here
 
 -- a place that is over is taken out of the set, and its connection ended
-pub end_watched : ClientLaws → OutputLaws → (old new : ServedState) (q : ℕ) (reply : HubReply) (f f1 : ℕ → Option ℕ) (m o m1 o1 : List Bool)
-    → IsWatched old f m o → IsServed old → IsSame old new → OthersStay q old.lines new.lines → output_at q new.lines ≡ None
-    → HubStep old.hub (Ended (name_at q)) reply new.hub → IsNoted reply.acts f m (set o q false) f1 m1 o1 → IsWatched new f1 m1 o1
-end_watched clients outputs old new q reply f f1 m o m1 o1 w served same others gone step noted =
-    step_watched clients outputs old new (Ended (name_at q)) reply f f1 m (set o q false) m1 o1 m1 o1 same.base w.reached served step noted
+pub end_watched : ClientLaws → OutputLaws → (most : ℕ) (old new : ServedState) (q : ℕ) (reply : HubReply) (f f1 : ℕ → Option ℕ) (m o m1 o1 : List Bool)
+    → IsWatched most old f m o → IsServed old → IsSame old new → OthersStay q old.lines new.lines → output_at q new.lines ≡ None
+    → HubStep old.hub (Ended (name_at q)) reply new.hub → IsNoted reply.acts f m (set o q false) f1 m1 o1 → IsWatched most new f1 m1 o1
+end_watched clients outputs most old new q reply f f1 m o m1 o1 w served same others gone step noted =
+    step_watched clients outputs most old new (Ended (name_at q)) reply f f1 m (set o q false) m1 o1 m1 o1 same.base w.reached served step noted
     (subst (λ (n : ℕ). n ≤ length m) (sym same.places) w.marked_places)
     (subst (λ (n : ℕ). length new.lines ≤ n) (sym (length-set o q false)) (subst (λ (n : ℕ). n ≤ length o) (sym same.places) w.over_places))
     refl refl (same_all m1) (same_all o1)
@@ -319,8 +332,8 @@ end_watched clients outputs old new q reply f f1 m o m1 o1 w served same others 
     away p there same = true≢false (sym there ∙ (ap (λ (n : ℕ). exists_at n new.lines) same ∙ ap is_some gone))
 
 -- a place without a connection is taken out of the set of those that are over
-pub vacant_watched : (s : ServedState) (q : ℕ) (f : ℕ → Option ℕ) (m o : List Bool) → IsWatched s f m o → output_at q s.lines ≡ None → IsWatched s f m (set o q false)
-vacant_watched s q f m o w gone = record {
+pub vacant_watched : (most : ℕ) (s : ServedState) (q : ℕ) (f : ℕ → Option ℕ) (m o : List Bool) → IsWatched most s f m o → output_at q s.lines ≡ None → IsWatched most s f m (set o q false)
+vacant_watched most s q f m o w gone = record {
   reached = w.reached;
   marked_places = w.marked_places;
   over_places = subst (λ (n : ℕ). length s.lines ≤ n) (sym (length-set o q false)) w.over_places;
@@ -331,14 +344,14 @@ vacant_watched s q f m o w gone = record {
     away : (p : ℕ) → exists_at p s.lines ≡ true → p ≡ q → ⊥
     away p there same = true≢false (sym there ∙ (ap (λ (n : ℕ). exists_at n s.lines) same ∙ ap is_some gone))
 
-    at : (p : ℕ) (b : Bool) → exists_at p s.lines ≡ b → IsWrittenAt p s ⊎ ((is_in p m ≡ true) ⊎ (is_in p (set o q false) ≡ true))
-    at p false none = inl (unwritten (output_at p s.lines) (IsWritten (waiting_on (name_at p) s.hub.connections)) none)
+    at : (p : ℕ) (b : Bool) → exists_at p s.lines ≡ b → IsWrittenAt most p s ⊎ ((is_in p m ≡ true) ⊎ (is_in p (set o q false) ≡ true))
+    at p false none = inl (unwritten (output_at p s.lines) (IsWritten most (waiting_on (name_at p) s.hub.connections)) none)
     at p true there = ⊎_elim (λ x. inl x) (λ rest. inr (⊎_elim (λ x. inl x) (λ x. inr (apart_in o q p (away p there) x)) rest)) (w.written p)
 
 -- a place that is over stays over, if its connection cannot be ended
-pub kept_watched : (s : ServedState) (q : ℕ) (f : ℕ → Option ℕ) (m o : List Bool) → IsWatched s f m o → IsWatched s f m (set (set o q false) q true)
-kept_watched s q f m o w =
-    still_watched s s f m o m (set (set o q false) q true) q w refl refl refl refl (length-set (set o q false) q true ∙ length-set o q false) grows
+pub kept_watched : (most : ℕ) (s : ServedState) (q : ℕ) (f : ℕ → Option ℕ) (m o : List Bool) → IsWatched most s f m o → IsWatched most s f m (set (set o q false) q true)
+kept_watched most s q f m o w =
+    still_watched most s s f m o m (set (set o q false) q true) q w refl refl refl refl (length-set (set o q false) q true ∙ length-set o q false) grows
     (λ p apart x. x) (λ p apart. refl) refl
     (λ there. inr (inr (put_in (set o q false) q (subst (λ (n : ℕ). q < n) (sym (length-set o q false)) (let below = exists_within q s.lines there in omega (arith, w.over_places))))))
   where
@@ -355,14 +368,14 @@ kept_watched s q f m o w =
             put_all (set o q false) q p (apart_in o q p apart x)
 
 -- a place that is marked is taken out of the set, and its output written; or it is over
-pub give_watched : ClientLaws → OutputLaws → (old new : ServedState) (q : ℕ) (f : ℕ → Option ℕ) (m o o2 : List Bool) → IsWatched old f m o → IsServed old → IsSame old new
+pub give_watched : ClientLaws → OutputLaws → (most : ℕ) (old new : ServedState) (q : ℕ) (f : ℕ → Option ℕ) (m o o2 : List Bool) → IsWatched most old f m o → IsServed old → IsSame old new
     → MayCollect q old.hub new.hub → OthersStay q old.lines new.lines → exists_at q new.lines ≡ exists_at q old.lines → length o2 ≡ length o → AllIn o o2
-    → (exists_at q new.lines ≡ true → IsWrittenAt q new ⊎ (is_in q o2 ≡ true)) → IsWatched new f (set m q false) o2
-give_watched clients outputs old new q f m o o2 w served same (inl still) others here lo grows own =
-    still_watched old new f m o (set m q false) o2 q w same.base still same.places (length-set m q false) lo grows
+    → (exists_at q new.lines ≡ true → IsWrittenAt most q new ⊎ (is_in q o2 ≡ true)) → IsWatched most new f (set m q false) o2
+give_watched clients outputs most old new q f m o o2 w served same (inl still) others here lo grows own =
+    still_watched most old new f m o (set m q false) o2 q w same.base still same.places (length-set m q false) lo grows
     (λ p apart x. apart_in m q p apart x) others here (λ there. ⊎_elim (λ x. inl x) (λ x. inr (inr x)) (own there))
-give_watched clients outputs old new q f m o o2 w served same (inr collected) others here lo grows own =
-    step_watched clients outputs old new (Collect (name_at q)) collected.0 f f (set m q false) o (set m q false) o (set m q false) o2 same.base w.reached served collected.1 noted
+give_watched clients outputs most old new q f m o o2 w served same (inr collected) others here lo grows own =
+    step_watched clients outputs most old new (Collect (name_at q)) collected.0 f f (set m q false) o (set m q false) o (set m q false) o2 same.base w.reached served collected.1 noted
     (subst (λ (n : ℕ). length new.lines ≤ n) (sym (length-set m q false)) (subst (λ (n : ℕ). n ≤ length m) (sym same.places) w.marked_places))
     (subst (λ (n : ℕ). n ≤ length o) (sym same.places) w.over_places)
     refl lo (same_all (set m q false)) grows
@@ -372,7 +385,7 @@ give_watched clients outputs old new q f m o o2 w served same (inr collected) ot
     (others p apart, ⊎_elim (λ x. inl x) (λ rest. inr (⊎_elim (λ x. inl (apart_in m q p apart x)) (λ x. inr x) rest)) (w.written p)))
     (λ p there on.
     let at : q ≡ p = same_place p q on in
-    ⊎_elim (λ x. inl (subst (λ (n : ℕ). IsWrittenAt n new) at x)) (λ x. inr (inr (subst (λ (n : ℕ). is_in n o2 ≡ true) at x)))
+    ⊎_elim (λ x. inl (subst (λ (n : ℕ). IsWrittenAt most n new) at x)) (λ x. inr (inr (subst (λ (n : ℕ). is_in n o2 ≡ true) at x)))
     (own (subst (λ (n : ℕ). exists_at n new.lines ≡ true) (sym at) there)))
   where
     before : (p : ℕ) → exists_at p new.lines ≡ exists_at p old.lines
@@ -386,23 +399,23 @@ give_watched clients outputs old new q f m o o2 w served same (inr collected) ot
 
 -- ---- a call that makes no step
 
-written_same : (old new : ServedState) (q : ℕ) → new.hub ≡ old.hub → output_at q new.lines ≡ output_at q old.lines → IsWrittenAt q old → IsWrittenAt q new
-written_same old new q still same x =
-    subst (λ (y : Option Output). IfSome y (IsWritten (waiting_on (name_at q) new.hub.connections))) (sym same)
-    (subst (λ (h : HubState). IfSome (output_at q old.lines) (IsWritten (waiting_on (name_at q) h.connections))) (sym still) x)
+written_same : (most : ℕ) (old new : ServedState) (q : ℕ) → new.hub ≡ old.hub → output_at q new.lines ≡ output_at q old.lines → IsWrittenAt most q old → IsWrittenAt most q new
+written_same most old new q still same x =
+    subst (λ (y : Option Output). IfSome y (IsWritten most (waiting_on (name_at q) new.hub.connections))) (sym same)
+    (subst (λ (h : HubState). IfSome (output_at q old.lines) (IsWritten most (waiting_on (name_at q) h.connections))) (sym still) x)
 
-module _ (old new : ServedState) (q : ℕ) (f : ℕ → Option ℕ) (m o : List Bool) (w : IsWatched old f m o) (still : new.hub ≡ old.hub) (same : IsSame old new) where
+module _ (most : ℕ) (old new : ServedState) (q : ℕ) (f : ℕ → Option ℕ) (m o : List Bool) (w : IsWatched most old f m o) (still : new.hub ≡ old.hub) (same : IsSame old new) where
   -- no output changed
-  pub stays_watched : OutputStays old.lines new.lines → IsWatched new f m o
+  pub stays_watched : OutputStays old.lines new.lines → IsWatched most new f m o
   stays_watched stays =
-      still_watched old new f m o m o q w same.base still same.places refl refl (same_all o) (λ p apart x. x) (λ p apart. stays p) (ap is_some (stays q))
-      (λ there. ⊎_elim (λ x. inl (written_same old new q still (stays q) x)) (λ rest. inr rest) (w.written q))
+      still_watched most old new f m o m o q w same.base still same.places refl refl (same_all o) (λ p apart x. x) (λ p apart. stays p) (ap is_some (stays q))
+      (λ there. ⊎_elim (λ x. inl (written_same most old new q still (stays q) x)) (λ rest. inr rest) (w.written q))
 
   module _ (others : OthersStay q old.lines new.lines) (here : exists_at q new.lines ≡ exists_at q old.lines) where
     -- the place is over
-    pub over_watched : IsWatched new f m (set o q true)
+    pub over_watched : IsWatched most new f m (set o q true)
     over_watched =
-        still_watched old new f m o m (set o q true) q w same.base still same.places refl (length-set o q true) (put_all o q) (λ p apart x. x) others here
+        still_watched most old new f m o m (set o q true) q w same.base still same.places refl (length-set o q true) (put_all o q) (λ p apart x. x) others here
         (λ there. let below = exists_within q new.lines there in inr (inr (put_in o q (omega (arith, below, same.places, w.over_places)))))
 
 -- ---- the number of connections
@@ -429,8 +442,8 @@ emptier_left old new same places fewer =
     omega (arith, first, fewer)
 
 -- a place that has a connection is within the set
-pub over_within : (old new : ServedState) (q : ℕ) (f : ℕ → Option ℕ) (m o : List Bool) → IsWatched old f m o → IsSame old new → exists_at q new.lines ≡ true → q < length o
-over_within old new q f m o w same there = let below = exists_within q new.lines there in omega (arith, below, same.places, w.over_places)
+pub over_within : (most : ℕ) (old new : ServedState) (q : ℕ) (f : ℕ → Option ℕ) (m o : List Bool) → IsWatched most old f m o → IsSame old new → exists_at q new.lines ≡ true → q < length o
+over_within most old new q f m o w same there = let below = exists_within q new.lines there in omega (arith, below, same.places, w.over_places)
 
 -- after one more end, or none
 pub ended_more : (a b : Bool) (first before now : ℕ) → (a ≡ true → before < first) → (a ≡ false → before ≡ first) → (b ≡ true → now < before) → (b ≡ false → now ≡ before)
@@ -441,8 +454,8 @@ ended_more false true first before now some none more same e = let p = none refl
 ended_more false false first before now some none more same e = absurd (true≢false (sym e))
 
 -- a commit, which changes neither the broker's state nor a connection
-pub commit_watched : (old new : ServedState) (f : ℕ → Option ℕ) (m o : List Bool) → IsWatched old f m o → new.base ≡ old.base → new.hub ≡ old.hub → new.lines ≡ old.lines
-    → IsWatched new f m o
-commit_watched old new f m o w base still lines =
-    stays_watched old new 0 f m o w still (record { base = base; places = ap (λ (l : List (Option Line)). length l) lines })
+pub commit_watched : (most : ℕ) (old new : ServedState) (f : ℕ → Option ℕ) (m o : List Bool) → IsWatched most old f m o → new.base ≡ old.base → new.hub ≡ old.hub → new.lines ≡ old.lines
+    → IsWatched most new f m o
+commit_watched most old new f m o w base still lines =
+    stays_watched most old new 0 f m o w still (record { base = base; places = ap (λ (l : List (Option Line)). length l) lines })
     (λ p. ap (λ (l : List (Option Line)). output_at p l) lines)

@@ -7,6 +7,7 @@ use Rattle.mq_route.specs.declared.reply.HubReply.{HubReply}
 use Rattle.mq_route.specs.Hub.{HubState}
 use Rattle.mq_route.specs.Routed.{same_conn}
 use Rattle.mq_route.specs.Runs.{Episode, Follows}
+use Rattle.mq_loop.specs.Calls.{Call}
 
 -- The account of a connection in steps: whether it was opened and has not ended; and since it was
 -- opened, the bytes that its steps took, and those that its `Collect`s returned.
@@ -75,16 +76,18 @@ abbrev pub line_at : ℕ → List (Option Line) → Option Line
 line_at place lines = slice_index_or lines place None
 
 -- A broker and the connections that it serves, for contracts: the broker at the beginning, the
--- broker now, the connection at each place, and whether all steps of the broker are committed.
+-- broker now, the connection at each place, whether all steps of the broker are committed, and the
+-- calls on the broker, if they are known.
 pub record ServedState : Type 0 where
   pub base : HubState
   pub hub : HubState
   pub lines : List (Option Line)
   pub committed : Bool
+  pub calls : Option (List Call)
 
-abbrev pub served_state : HubState → HubState → List (Option Line) → Bool → ServedState
-served_state base hub lines committed =
-    record { base = base; hub = hub; lines = lines; committed = committed }
+abbrev pub served_state : HubState → HubState → List (Option Line) → Bool → Option (List Call) → ServedState
+served_state base hub lines committed calls =
+    record { base = base; hub = hub; lines = lines; committed = committed; calls = calls }
 
 -- All steps form one chain of one broker. In these steps each connection carries its bytes, and
 -- those connections are open that exist.

@@ -1,5 +1,7 @@
 pub mod Accounts
 pub mod Brokers
+pub mod Calls
+pub mod Inside
 pub mod Places
 pub mod Rounds
 pub mod Sockets

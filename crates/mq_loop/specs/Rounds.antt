@@ -1,5 +1,5 @@
 -- The end of a round: which connections have pending output, and which must be ended (4.6).
-use Rattle.std.specs.Prelude.{◌≡◌, ◌⊎◌, ℕ, suc, ◌+◌, ◌*◌, ◌<◌, ◌≤◌, ◌==◌, ◌||◌, Bool, true, false, List, [], ◌++◌, length, Option, Some, None, IfSome, is_some}
+use Rattle.std.specs.Prelude.{◌≡◌, ◌⊎◌, ℕ, suc, ◌+◌, ◌*◌, ◌<◌, ◌≤◌, ◌==◌, ◌||◌, Bool, true, false, not, List, [], ◌++◌, length, Option, Some, None, IfSome, is_some}
 use Rattle.std.specs.List.{count_by, list_any}
 use Rattle.mq_route.specs.declared.act.Act.{Act}
 use Rattle.mq_route.specs.declared.act.Act.TheVariants as acts
@@ -17,6 +17,7 @@ use Rattle.mq_loop.specs.declared.served.Given.TheVariants.{Written, Full, Finis
 use Rattle.mq_loop.specs.declared.served.Heard.{Heard}
 use Rattle.mq_loop.specs.declared.served.Heard.TheVariants.{Step, Nothing, Over}
 use Rattle.mq_loop.specs.Accounts.{Line, ServedState, line_at, name_at, served_state}
+use Rattle.mq_loop.specs.Calls.{Ages, Call, age_at}
 use Rattle.mq_loop.specs.Places.{count_in, is_in}
 
 -- ---- brokers
@@ -44,14 +45,21 @@ output_of (Some line) = Some record { kept = line.kept; full = line.full; finish
 abbrev pub output_at : ℕ → List (Option Line) → Option Output
 output_at place lines = output_of (line_at place lines)
 
--- The connection need not be ended, and nothing is pending for it, at the broker or here, unless
--- its socket takes no byte.
-abbrev pub IsWritten : List ℕ → Output → Type 0
-IsWritten waiting output = (output.finished ≡ false) × ((output.full ≡ true) ⊎ ((waiting ≡ []) × (output.kept ≡ [])))
+-- A connection with these pending bytes at the broker need not be ended, and they are at most the
+-- limit. Nothing is pending, at the broker or here, unless its socket takes no byte.
+abbrev pub IsWritten : ℕ → List ℕ → Output → Type 0
+IsWritten most waiting output =
+    (output.finished ≡ false)
+    × (length waiting ≤ most)
+    × ((output.full ≡ true) ⊎ ((waiting ≡ []) × (output.kept ≡ [])))
+
+-- the pending bytes at the broker of the connection at a place
+abbrev pub waiting_at : ℕ → ServedState → List ℕ
+waiting_at place served = waiting_on (name_at place) served.hub.connections
 
 -- the same of the connection at a place, if there is one
-abbrev pub IsWrittenAt : ℕ → ServedState → Type 0
-IsWrittenAt place served = IfSome (output_at place served.lines) (IsWritten (waiting_on (name_at place) served.hub.connections))
+abbrev pub IsWrittenAt : ℕ → ℕ → ServedState → Type 0
+IsWrittenAt most place served = IfSome (output_at place served.lines) (IsWritten most (waiting_at place served))
 
 -- ---- calls on a broker and its connections
 
@@ -59,6 +67,23 @@ IsWrittenAt place served = IfSome (output_at place served.lines) (IsWritten (wai
 pub record IsSame (old new : ServedState) : Type 0 where
   pub base : new.base ≡ old.base
   pub places : length new.lines ≡ length old.lines
+
+-- the output that is kept for the connection at a place
+abbrev pub kept_of : Option Line → List ℕ
+kept_of None = []
+kept_of (Some line) = line.kept
+
+abbrev pub kept_at : ℕ → List (Option Line) → List ℕ
+kept_at place lines = kept_of (line_at place lines)
+
+-- the number of bytes that are pending for the connection at a place, here and at the broker
+abbrev pub pending_at : ℕ → ServedState → ℕ
+pending_at place served = length (kept_at place served.lines) + length (waiting_at place served)
+
+-- bytes of the connection wait for a step, or it must be ended
+abbrev pub has_unread : Option Line → Bool
+has_unread None = false
+has_unread (Some line) = (line.broken || line.finished) || not (length line.unread == 0)
 
 -- the output of each connection is as before; or that of each but one
 abbrev pub OutputStays : List (Option Line) → List (Option Line) → Type 0
@@ -92,11 +117,16 @@ AtOutputs None (Some new) P = ⊥
 AtOutputs (Some old) None P = ⊥
 AtOutputs (Some old) (Some new) P = P old new
 
--- output was given to a socket
-abbrev pub IsGiven : Given → Type 0 → Type 0
-IsGiven (Written count) P = P
-IsGiven Full P = P
-IsGiven Finished P = Unit {0}
+-- the connection need not be ended, and its socket takes no byte
+abbrev pub IsFull : Output → Type 0
+IsFull output = (output.finished ≡ false) × (output.full ≡ true)
+
+-- Output was given to the socket of the connection at a place, if there is one. If it was
+-- collected, nothing is pending at the broker.
+abbrev pub IsGiven : Given → ℕ → ServedState → Type 0
+IsGiven (Written count) place served = IsWrittenAt 0 place served
+IsGiven Full place served = IfSome (output_at place served.lines) IsFull
+IsGiven Finished place served = Unit {0}
 
 -- a collect: the broker made its step, or it made none, because output is kept
 abbrev pub Collects : ℕ → HubState → HubState → Option Output → Option Bool → Type 0
@@ -161,26 +191,30 @@ abbrev pub exists_at : ℕ → List (Option Line) → Bool
 exists_at place lines = is_some (output_at place lines)
 
 -- The notes miss nothing: a client that is connected at a place is noted there, and a place with
--- pending output that its socket may take is marked; or the place must be ended.
-pub record IsWatched (served : ServedState) (place_of : ℕ → Option ℕ) (marked over : List Bool) : Type 0 where
+-- pending output that its socket may take, or that exceeds the limit, is marked; or the place must
+-- be ended.
+pub record IsWatched (most : ℕ) (served : ServedState) (place_of : ℕ → Option ℕ) (marked over : List Bool) : Type 0 where
   pub reached : IsReached served.base
   pub marked_places : length served.lines ≤ length marked
   pub over_places : length served.lines ≤ length over
   pub noted : (client place : ℕ) → exists_at place served.lines ≡ true
       → is_for client (stage_of (name_at place) served.hub.connections) ≡ true → (place_of client ≡ Some place) ⊎ (is_in place over ≡ true)
-  pub written : (place : ℕ) → IsWrittenAt place served ⊎ ((is_in place marked ≡ true) ⊎ (is_in place over ≡ true))
+  pub written : (place : ℕ) → IsWrittenAt most place served ⊎ ((is_in place marked ≡ true) ⊎ (is_in place over ≡ true))
 
--- A broker and the connections that it serves, with notes, for contracts: the places that may have
--- output at the broker, those that must be ended, and whether the broker refused to end one of them
--- in this round, because an allocation failed.
+-- A broker and the connections that it serves, with notes, for contracts: the limit on the pending
+-- bytes of a connection whose socket takes none, the places that may have output at the broker,
+-- those that must be ended, and whether the broker refused to end one of them in this round,
+-- because an allocation failed.
 pub record WatchedState : Type 0 where
   pub served : ServedState
+  pub most_owed : ℕ
   pub marked : List Bool
   pub over : List Bool
   pub failed : Bool
 
-abbrev pub watched_state : ServedState → List Bool → List Bool → Bool → WatchedState
-watched_state served marked over failed = record { served = served; marked = marked; over = over; failed = failed }
+abbrev pub watched_state : ServedState → ℕ → List Bool → List Bool → Bool → WatchedState
+watched_state served most_owed marked over failed =
+    record { served = served; most_owed = most_owed; marked = marked; over = over; failed = failed }
 
 -- no place is in the set
 abbrev pub IsEmpty : List Bool → Type 0
@@ -199,23 +233,47 @@ AreEnded watched = IsEmpty watched.over ⊎ (watched.failed ≡ true)
 abbrev pub ends_left : WatchedState → ℕ
 ends_left watched = connections_in watched.served.lines * suc (length watched.over) + count_in watched.over
 
+-- the connection at a place must be ended, and an allocation for its end failed
+abbrev pub IsLeft : ℕ → WatchedState → Type 0
+IsLeft place watched = (is_in place watched.over ≡ true) × (watched.failed ≡ true)
+
 -- Each connection has nothing pending that its socket would take, and none is left that must be
 -- ended, unless an allocation failed.
 abbrev pub IsSettled : WatchedState → Type 0
-IsSettled watched =
-    (place : ℕ) → IsWrittenAt place watched.served ⊎ ((is_in place watched.over ≡ true) × (watched.failed ≡ true))
+IsSettled watched = (place : ℕ) → IsWrittenAt watched.most_owed place watched.served ⊎ IsLeft place watched
+
+-- No connection is owed more than the limit: at most this number of bytes is pending at the broker
+-- for each one that exists. Others are ended, unless an allocation failed.
+abbrev pub AreBounded : WatchedState → Type 0
+AreBounded watched =
+    (place : ℕ) → exists_at place watched.served.lines ≡ true
+    → (length (waiting_at place watched.served) ≤ watched.most_owed) ⊎ IsLeft place watched
 
 -- ---- loops
 
--- A loop, for contracts: its broker and connections, with notes, and whether a commit failed, after
--- which the loop does nothing any more.
+-- A loop, for contracts: its broker and connections, with notes; whether a commit failed, after
+-- which the loop does nothing any more; and the ages of the connections.
 pub record LoopState : Type 0 where
   pub watched : WatchedState
   pub stopped : Bool
+  pub ages : Ages
 
--- a loop that has made no round yet
-abbrev pub new_loop : HubState → Bool → LoopState
-new_loop hub committed = record {
-  watched = watched_state (served_state hub hub [] committed) [] [] false;
+-- a loop with this limit that has made no round yet
+abbrev pub new_loop : HubState → Bool → Option (List Call) → ℕ → LoopState
+new_loop hub committed calls most_owed = record {
+  watched = watched_state (served_state hub hub [] committed calls) most_owed [] [] false;
   stopped = false;
+  ages = record { opened = 0; at_places = [] };
 }
+
+-- the ages of all connections are as before
+abbrev pub AgesStay : LoopState → LoopState → Type 0
+AgesStay old new =
+    (new.ages.opened ≡ old.ages.opened) × ((place : ℕ) → age_at place new.ages ≡ age_at place old.ages)
+
+-- A connection was opened at a place: it is the newest, and the others are as they were.
+pub record IsOpened (place : ℕ) (old new : LoopState) : Type 0 where
+  pub exists : exists_at place new.watched.served.lines ≡ true
+  pub opened : new.ages.opened ≡ old.ages.opened + 1
+  pub newest : age_at place new.ages ≡ new.ages.opened
+  pub others : (other : ℕ) → ¬ other ≡ place → age_at other new.ages ≡ age_at other old.ages

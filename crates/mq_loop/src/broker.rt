@@ -1,11 +1,12 @@
 //! Brokers of a loop, whose steps are committed before their output is collected.
 
-ghost use Rattle.std.specs.Prelude.{◌≡◌, Bool, true, IfOk, OnErr, OnOk};
-ghost use Rattle.mq_route.specs.declared.event.HubEvent.TheVariants.{Collect};
+ghost use Rattle.std.specs.Prelude.{◌≡◌, Bool, List, Option, None, true, take, ◌∷◌, [], IfOk, OnErr, OnOk};
+ghost use Rattle.mq_route.specs.declared.event.HubEvent.TheVariants.{Bytes, Collect};
 ghost use Rattle.mq_route.specs.Hub.{HubState};
 ghost use Rattle.mq_route.specs.Step.{HubStep};
 ghost use Rattle.mq_route.specs.StepSome.{HubStepSome};
 ghost use Rattle.mq_loop.specs.Brokers.{is_input};
+ghost use Rattle.mq_loop.specs.Calls.{Call, commit, step, with_calls};
 
 use mq_hub::Hub;
 use mq_route::{Conn, HubEvent, HubRefusal, HubReply};
@@ -28,7 +29,8 @@ pub enum CommitFailure {
 /// A broker whose steps are committed before their output is collected.
 ///
 /// A commit makes all steps durable, if the broker has a storage. Contracts see the broker's state,
-/// whether all its steps are committed, and whether a commit can fail.
+/// whether all its steps are committed, and whether a commit can fail; and also which calls were
+/// made, as far as an implementation says so.
 pub trait Broker {
     /// The state of the broker.
     ghost state: { Self → HubState };
@@ -38,6 +40,9 @@ pub trait Broker {
 
     /// Whether a commit can fail.
     ghost can_fail: { Bool };
+
+    /// The calls that succeeded, if they are known.
+    ghost calls: { Self → Option (List Call) } = { λ _. None };
 
     /// The broker without its storage.
     fn hub(&self) -> &Hub
@@ -50,7 +55,9 @@ pub trait Broker {
         requires input { is_input event.now ≡ true }
         ensures step { IfOk result (λ reply. HubStep (state self.old) event.now reply (state self.new)) }
         ensures err { OnErr result (state self.new ≡ state self.old) }
-        ensures uncommitted { OnErr result (committed self.new ≡ committed self.old) };
+        ensures uncommitted { OnErr result (committed self.new ≡ committed self.old) }
+        ensures calls { IfOk result (λ reply. calls self.new ≡ with_calls (calls self.old) (step event.now reply ∷ [])) }
+        ensures uncalled { OnErr result (calls self.new ≡ calls self.old) };
 
     /// Makes the step for the front of bytes that come on a connection. Returns the reply and the
     /// number of bytes used.
@@ -63,18 +70,24 @@ pub trait Broker {
         most_acts: usize,
     ) -> Result<(HubReply, usize), HubRefusal>
         ensures step { IfOk result (λ r. HubStepSome (state self.old) conn piece.now most_acts r.0 r.1 (state self.new)) }
-        ensures err { OnErr result (state self.new ≡ state self.old) };
+        ensures err { OnErr result (state self.new ≡ state self.old) }
+        ensures calls { IfOk result (λ r. calls self.new ≡ with_calls (calls self.old) (step (Bytes conn (take r.1 piece.now)) r.0 ∷ [])) }
+        ensures uncalled { OnErr result (calls self.new ≡ calls self.old) };
 
     /// Takes the pending output of a connection. All steps must be committed.
     fn collect(&mut self, conn: Conn) -> Result<HubReply, HubRefusal>
         requires committed { committed self.old ≡ true }
         ensures step { IfOk result (λ reply. HubStep (state self.old) (Collect conn) reply (state self.new)) }
         ensures err { OnErr result (state self.new ≡ state self.old) }
-        ensures still { committed self.new ≡ committed self.old };
+        ensures still { committed self.new ≡ committed self.old }
+        ensures calls { IfOk result (λ reply. calls self.new ≡ with_calls (calls self.old) (step (Collect conn) reply ∷ [])) }
+        ensures uncalled { OnErr result (calls self.new ≡ calls self.old) };
 
     /// Commits all steps. After an error the program must end.
     fn commit(&mut self) -> Result<(), CommitFailure>
         ensures ok { OnOk result (committed self.new ≡ true) }
         ensures state { state self.new ≡ state self.old }
-        ensures sure { OnErr result (can_fail ≡ true) };
+        ensures sure { OnErr result (can_fail ≡ true) }
+        ensures calls { OnOk result (calls self.new ≡ with_calls (calls self.old) (commit ∷ [])) }
+        ensures uncalled { OnErr result (calls self.new ≡ calls self.old) };
 }

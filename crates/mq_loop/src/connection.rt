@@ -1,6 +1,6 @@
 //! One connection: its socket, and the output that the socket has not taken.
 
-ghost use Rattle.std.specs.Prelude.{◌≡◌, ◌≢◌, ◌≤◌, ◌⊎◌, ◌||◌, [], true, false, drop, length};
+ghost use Rattle.std.specs.Prelude.{◌≡◌, ◌≢◌, ◌==◌, ◌≤◌, ◌⊎◌, ◌||◌, [], true, false, not, drop, length};
 ghost use Rattle.mq_loop.specs.declared.connection.Flushed.TheVariants.{All, Blocked, Failed};
 ghost use Rattle.mq_loop.specs.Sockets.{ComesIn, Sends, finishes};
 
@@ -72,6 +72,7 @@ impl<S: Socket> Connection<S> {
 
     /// Whether output is kept, because the socket did not take it.
     pub fn is_blocked(&self) -> bool
+        ensures blocked { result ≡ not (length self.now.kept == 0) }
         ensures none { result ≡ false → self.now.kept ≡ [] }
         ensures kept { result ≡ true → ¬ self.now.kept ≡ [] }
     {
@@ -119,6 +120,16 @@ impl<S: Socket> Connection<S> {
         ensures { result.now ≡ self.now.unread }
     {
         self.unread.as_slice()
+    }
+
+    /// Whether bytes wait for a step, or the connection must be ended.
+    pub fn has_unread(&self) -> bool
+        ensures { result ≡ ((self.now.broken || self.now.finished) || not (length self.now.unread == 0)) }
+    {
+        if self.is_finished() {
+            return true;
+        }
+        !self.unread.is_empty()
     }
 
     /// Drops the first bytes of those that wait for a step.

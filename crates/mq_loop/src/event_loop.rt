@@ -1,9 +1,10 @@
 //! Rounds of a loop over all connections.
 
-ghost use Rattle.std.specs.Prelude.{◌≡◌, ◌<◌, [], false, true, IfSome, IsErr, OnErr, OnOk};
+ghost use Rattle.std.specs.Prelude.{◌≡◌, ◌<◌, ◌-◌, ◌^◌, ℕ, [], None, false, true, length, min, IfSome, IsErr, OnErr, OnOk};
 ghost use Rattle.mq_route.specs.Hub.{new_hub};
 ghost use Rattle.mq_loop.specs.Accounts.{IsServed};
-ghost use Rattle.mq_loop.specs.Rounds.{IsReached, IsSettled, new_loop};
+ghost use Rattle.mq_loop.specs.Calls.{IsRound, Quietly, age_at};
+ghost use Rattle.mq_loop.specs.Rounds.{AgesStay, AreBounded, IsEmpty, IsOpened, IsReached, IsSettled, new_loop, pending_at};
 
 mod input;
 
@@ -12,6 +13,7 @@ use crate::observer::Observer;
 use crate::reading::Reading;
 use crate::report::Report;
 use crate::socket::Socket;
+use crate::turns::{Holds, Turn};
 use crate::watched::Watched;
 use mq_decode::Limits;
 use mq_hub::Hub;
@@ -31,17 +33,11 @@ pub struct LoopLimits {
     /// The number of bytes after which a connection that has more to read must wait for the next
     /// round.
     pub share: usize,
-    /// The number of bytes that may be placed for a connection whose socket takes none.
+    /// The number of bytes of output that may be pending at the broker for a connection whose
+    /// socket takes none.
     pub most_owed: usize,
     /// The limits of the broker's packets (2.2.3).
     pub packets: Limits,
-}
-
-// A connection that may have bytes to read. Older connections are first.
-#[derive(Clone, Copy, PartialEq, Eq, PartialOrd, Ord)]
-struct Turn {
-    age: u64,
-    place: u32,
 }
 
 /// A loop over one broker and the connections that it serves.
@@ -59,6 +55,8 @@ pub struct EventLoop<B: Broker + Drop, S: Socket + Drop, O: Observer + Drop> {
     failure: Option<CommitFailure>,
     observer: O,
     readings: Vec<Reading>,
+    // For each place, the number of its connection among those that were opened.
+    ages: Vec<u64>,
     // The number of places for which each list below has room. A list names a place once at most.
     room: usize,
     ready: Vec<Turn>,
@@ -68,10 +66,8 @@ pub struct EventLoop<B: Broker + Drop, S: Socket + Drop, O: Observer + Drop> {
     time: u64,
     // The number of connections that were opened.
     opened: u64,
-    // In this round, connections with a greater age wait for an older one that has more to read,
-    // and for one whose peer has hung up.
-    held_after: u64,
-    hung_up_after: u64,
+    // In this round, connections that have more to read and hold newer ones.
+    holds: Holds,
 }
 
 impl<B: Broker + Drop, S: Socket + Drop, O: Observer + Drop> Model for EventLoop<B, S, O> {
@@ -85,7 +81,11 @@ impl<B: Broker + Drop, S: Socket + Drop, O: Observer + Drop> Model for EventLoop
 
     ghost coded = { Prim.hlevel (codes, set.code {R = nat_cmp} coded_ℕ) };
 
-    ghost view = { λ e. record { watched = e.watched; stopped = is_some e.failure } };
+    ghost view = { λ e. record {
+      watched = e.watched;
+      stopped = is_some e.failure;
+      ages = record { opened = e.opened; at_places = e.ages.items };
+    } };
 }
 
 impl<S: Socket + Drop, O: Observer + Drop> EventLoop<Hub, S, O> {
@@ -100,7 +100,7 @@ impl<S: Socket + Drop, O: Observer + Drop> EventLoop<Hub, S, O> {
     ) -> EventLoop<Hub, S, O>
         requires capacity { 0 < config.capacity }
         requires window { IfSome config.window (λ window. 0 < window) }
-        ensures { result ≡ new_loop (new_hub config) true }
+        ensures { result ≡ new_loop (new_hub config) true None limits.most_owed }
     {
         EventLoop::over(alloc, Hub::new(alloc, config), limits, observer)
     }
@@ -110,7 +110,7 @@ impl<B: Broker + Drop, S: Socket + Drop, O: Observer + Drop> EventLoop<B, S, O> 
     /// A loop over a broker that made steps before and knows no connection.
     pub fn over(alloc: Global, broker: B, limits: LoopLimits, observer: O) -> EventLoop<B, S, O>
         requires { IsReached (B.state broker) }
-        ensures { result ≡ new_loop (B.state broker) (B.committed broker) }
+        ensures { result ≡ new_loop (B.state broker) (B.committed broker) (B.calls broker) limits.most_owed }
     {
         EventLoop {
             alloc,
@@ -119,6 +119,7 @@ impl<B: Broker + Drop, S: Socket + Drop, O: Observer + Drop> EventLoop<B, S, O> 
             failure: None,
             observer,
             readings: Vec::new(alloc),
+            ages: Vec::new(alloc),
             room: 0,
             ready: Vec::new(alloc),
             turns: Vec::new(alloc),
@@ -126,8 +127,7 @@ impl<B: Broker + Drop, S: Socket + Drop, O: Observer + Drop> EventLoop<B, S, O> 
             last_tick: None,
             time: 0,
             opened: 0,
-            held_after: u64::MAX,
-            hung_up_after: u64::MAX,
+            holds: Holds::none(),
         }
     }
 
@@ -155,14 +155,23 @@ impl<B: Broker + Drop, S: Socket + Drop, O: Observer + Drop> EventLoop<B, S, O> 
         &mut self.observer
     }
 
-    /// The number of bytes that are kept for the connection at a place or owed to it.
-    pub fn pending(&self, place: u32) -> usize {
+    /// The number of bytes of output that are pending for the connection at a place, here and at
+    /// the broker.
+    pub fn pending(&self, place: u32) -> usize
+        ensures { result ≡ min (pending_at place self.now.watched.served) (2 ^ 64 - 1) }
+    {
         self.watched.pending(place)
     }
 
     /// The number of places.
-    pub fn places(&self) -> u32 {
-        u32::try_from(self.watched.notes().places()).unwrap_or(u32::MAX)
+    pub fn places(&self) -> u32
+        ensures { result ≡ min (length self.now.watched.served.lines) (2 ^ 32 - 1) }
+    {
+        let places = self.watched.places();
+        if places > u32::MAX as usize {
+            return u32::MAX;
+        }
+        places as u32
     }
 
     /// The number of connections.
@@ -172,8 +181,13 @@ impl<B: Broker + Drop, S: Socket + Drop, O: Observer + Drop> EventLoop<B, S, O> 
 
     /// Whether the next round must begin at once, because a connection has more to read or must be
     /// ended.
-    pub fn is_due(&self) -> bool {
-        !self.ready.is_empty() || !self.newcomers.is_empty() || self.watched.has_over()
+    pub fn is_due(&self) -> bool
+        ensures { result ≡ false → IsEmpty self.now.watched.over }
+    {
+        if self.watched.may_have_over() {
+            return true;
+        }
+        !self.ready.is_empty() || !self.newcomers.is_empty()
     }
 
     /// Takes the reports of the rounds up to now.
@@ -187,6 +201,8 @@ impl<B: Broker + Drop, S: Socket + Drop, O: Observer + Drop> EventLoop<B, S, O> 
     pub fn vacant_place(&mut self) -> Result<u32, AllocError>
         ensures base { self.new.watched.served.base ≡ self.old.watched.served.base }
         ensures stopped { self.new.stopped ≡ self.old.stopped }
+        ensures ages { AgesStay self.old self.new }
+        ensures calls { self.new.watched.served.calls ≡ self.old.watched.served.calls }
     {
         if let Some(place) = self.watched.notes().vacant() {
             return Ok(place);
@@ -196,19 +212,29 @@ impl<B: Broker + Drop, S: Socket + Drop, O: Observer + Drop> EventLoop<B, S, O> 
     }
 
     // Makes room for one more place in each list.
+    #[tactic(auto, using(crate::proofs::Calling::one_more_age))]
     fn make_room(&mut self) -> Result<(), AllocError>
+        ensures watched { self.new.watched ≡ self.old.watched }
+        ensures stopped { self.new.stopped ≡ self.old.stopped }
+        ensures ages { AgesStay self.old self.new }
+    {
+        if self.readings.len() >= self.room {
+            self.double_room()?;
+        }
+        self.readings.push(Reading::new(0, 0))?;
+        self.ages.push(0)?;
+        Ok(())
+    }
+
+    // Makes room for twice as many places in each list.
+    fn double_room(&mut self) -> Result<(), AllocError>
         ensures { self.new ≡ self.old }
     {
-        if self.readings.len() < self.room {
-            self.readings.push(Reading::new(0, 0))?;
-            return Ok(());
-        }
         let room = self.room.saturating_mul(2).max(FIRST_ROOM);
         make_room_for(&mut self.newcomers, room)?;
         // A place is listed as ready again if its connection ended and another one was opened.
         make_room_for(&mut self.ready, room.saturating_mul(2))?;
         make_room_for(&mut self.turns, room.saturating_mul(2))?;
-        self.readings.push(Reading::new(0, 0))?;
         self.room = room;
         Ok(())
     }
@@ -216,29 +242,56 @@ impl<B: Broker + Drop, S: Socket + Drop, O: Observer + Drop> EventLoop<B, S, O> 
     /// Opens a connection at a place that [`vacant_place`](EventLoop::vacant_place) returned.
     ///
     /// The next round does not read from it, so that bytes which arrived earlier on other
-    /// connections are handled first. Returns false, and drops the socket, if an allocation fails.
-    /// The socket must be fresh.
+    /// connections are handled first. Returns false, and drops the socket, if an allocation fails,
+    /// or if 2^64 - 1 connections were opened. The socket must be fresh.
+    #[tactic(auto, using(crate::proofs::Calling::age_here, crate::proofs::Calling::age_elsewhere))]
     pub fn open(&mut self, place: u32, socket: S) -> bool
         requires came { IfSome (S.came socket) (λ bytes. bytes ≡ []) }
         requires went { IfSome (S.went socket) (λ bytes. bytes ≡ []) }
         ensures base { self.new.watched.served.base ≡ self.old.watched.served.base }
         ensures stopped { self.new.stopped ≡ self.old.stopped }
+        ensures opened { result ≡ true → IsOpened place self.old self.new }
+        ensures refused { result ≡ false → self.new ≡ self.old }
     {
-        if self.watched.notes().vacant() != Some(place) {
+        let at = place as usize;
+        if self.watched.notes().vacant() != Some(place) || at >= self.ages.len() {
             return false;
         }
+        let Some(age) = self.opened.checked_add(1) else {
+            return false;
+        };
         if !self.watched.open(place, socket) {
             return false;
         }
-        self.opened = self.opened.saturating_add(1);
-        let mut reading = Reading::new(self.opened, self.time);
+        self.opened = age;
+        self.ages[at] = age;
+        self.list_newcomer(place, age);
+        true
+    }
+
+    // Lists a connection of this age that was opened, so that the next round does not read from it.
+    fn list_newcomer(&mut self, place: u32, age: u64)
+        ensures { self.new ≡ self.old }
+    {
+        let mut reading = Reading::new(age, self.time);
         reading.is_ready = true;
         let at = place as usize;
         if at < self.readings.len() {
             self.readings[at] = reading;
         }
         let _ = self.newcomers.push(place);
-        true
+    }
+
+    // The age of the connection at a place.
+    fn age(&self, place: u32) -> u64
+        ensures { result ≡ age_at place self.now.ages }
+    {
+        let at = place as usize;
+        if at < self.ages.len() {
+            self.ages[at]
+        } else {
+            0
+        }
     }
 
     /// Notes that a connection may have bytes to read or take bytes. `has_hung_up` says that its
@@ -258,13 +311,13 @@ impl<B: Broker + Drop, S: Socket + Drop, O: Observer + Drop> EventLoop<B, S, O> 
         ensures { self.new ≡ self.old }
     {
         let at = place as usize;
+        let age = self.age(place);
         if at >= self.readings.len() {
             return;
         }
         let reading = &mut self.readings[at];
         if !reading.is_ready {
             reading.is_ready = true;
-            let age = reading.age;
             let _ = self.ready.push(Turn { age, place });
         }
     }
@@ -273,14 +326,18 @@ impl<B: Broker + Drop, S: Socket + Drop, O: Observer + Drop> EventLoop<B, S, O> 
     ///
     /// If a commit fails, no output is collected or written any more: this call and later ones
     /// return the failure, and the program must end. A commit of a `Hub` never fails.
+    #[tactic(auto, using(crate::proofs::Calling::round_none, crate::proofs::Calling::round_of))]
     pub fn round(&mut self, now: u64, buffer: &mut [u8]) -> Result<(), CommitFailure>
         ensures settled { OnOk result (IsSettled self.new.watched) }
+        ensures bounded { OnOk result (AreBounded self.new.watched) }
         ensures committed { OnOk result (self.new.watched.served.committed ≡ true) }
         ensures running { OnOk result (self.new.stopped ≡ false) }
         ensures stopped { OnErr result (self.new.stopped ≡ true) }
         ensures later { self.old.stopped ≡ true → IsErr result × (self.new ≡ self.old) }
         ensures sure { self.old.stopped ≡ false → OnErr result (B.can_fail ≡ true) }
         ensures base { self.new.watched.served.base ≡ self.old.watched.served.base }
+        ensures calls { IsRound self.old.ages self.old.watched.served.calls self.new.watched.served.calls }
+        ensures ages { self.new.ages ≡ self.old.ages }
     {
         if let Some(failure) = self.failure {
             return Err(failure);
@@ -294,8 +351,11 @@ impl<B: Broker + Drop, S: Socket + Drop, O: Observer + Drop> EventLoop<B, S, O> 
     }
 
     // Tells the broker the time, if it advanced enough.
+    #[tactic(auto, using(crate::proofs::Calling::quiet_none))]
     fn tick(&mut self, now: u64)
-        ensures { self.new.watched.served.base ≡ self.old.watched.served.base }
+        ensures base { self.new.watched.served.base ≡ self.old.watched.served.base }
+        ensures calls { Quietly self.old.watched.served.calls self.new.watched.served.calls }
+        ensures ages { self.new.ages ≡ self.old.ages }
     {
         if let Some(last) = self.last_tick {
             if now < last.saturating_add(TICK) {

@@ -29,6 +29,7 @@ mod report;
 mod seat;
 mod served;
 mod socket;
+mod turns;
 mod watched;
 
 pub use crate::broker::{Broker, CommitFailure};

@@ -2,6 +2,7 @@
 
 ghost use Rattle.std.specs.Prelude.{◌≡◌, ◌≤◌, ◌<◌, ◌⊎◌, ◌∷◌, [], ◌++◌, ℕ, Bool, true, IfNone, IfOk, IfSome, OnErr, OnOk, Some, None, false, length, nat_eq, slice_set, if◌then◌else◌};
 ghost use Rattle.std.specs.HashMap.{get};
+ghost use Rattle.mq_packet.specs.declared.message.Message.{Message};
 ghost use Rattle.mq_route.specs.declared.act.Act.TheVariants as acts;
 ghost use Rattle.mq_loop.specs.Accounts.{name_at};
 ghost use Rattle.mq_loop.specs.Rounds.{IsNoted, IsRoomier};
@@ -9,15 +10,11 @@ ghost use Rattle.mq_loop.specs.Rounds.{IsNoted, IsRoomier};
 use crate::place_set::PlaceSet;
 use crate::report::Report;
 use crate::seat::Seat;
-use mq_packet::Message;
 use mq_route::{Act, Conn, HubClose};
 use mq_topic::ClientKey;
 use std::alloc::{AllocError, Global};
 use std::collections::HashMap;
 use std::mem;
-
-/// The estimated size of a packet without its topic and payload, in bytes.
-const PACKET: usize = 16;
 
 // The place at which each client is connected.
 type Clients = HashMap<ClientKey, u32>;
@@ -100,23 +97,6 @@ fn close_seat(seats: &mut Vec<Option<Seat>>, place: u32) -> Option<ClientKey> {
     seat.client
 }
 
-// The connection at a place is owed further bytes.
-fn add_owed(seats: &mut Vec<Option<Seat>>, place: u32, count: usize) {
-    if let Some(seat) = seat_at(seats, place) {
-        seat.owed = seat.owed.saturating_add(count);
-    }
-}
-
-// The size of the packet of a copy, in bytes.
-fn size_of(message: &Message) -> usize {
-    message
-        .payload
-        .as_slice()
-        .len()
-        .saturating_add(message.topic.as_str().len())
-        .saturating_add(PACKET)
-}
-
 impl Notes {
     /// Notes about no place.
     pub(crate) fn new(alloc: Global) -> Notes
@@ -179,15 +159,6 @@ impl Notes {
         match self.seat(place) {
             Some(seat) => seat.client.is_some(),
             None => false,
-        }
-    }
-
-    /// The number of bytes that were placed for the client of a connection since its output was
-    /// last collected.
-    pub(crate) fn owed(&self, place: u32) -> usize {
-        match self.seat(place) {
-            Some(seat) => seat.owed,
-            None => 0,
         }
     }
 
@@ -258,34 +229,28 @@ impl Notes {
         self.report(Report::Ended { place });
     }
 
-    /// Notes that the output of a connection was collected.
-    pub(crate) fn settle(&mut self, place: u32)
-        ensures clients { self.new.clients ≡ self.old.clients }
-        ensures marked { self.new.marked ≡ self.old.marked }
-        ensures over { self.new.over ≡ self.old.over }
-        ensures failed { self.new.has_failed ≡ self.old.has_failed }
-    {
-        if let Some(seat) = seat_at(&mut self.seats, place) {
-            seat.owed = 0;
+    // Whether the broker closed the connection at a place.
+    fn is_closed(&self, place: u32) -> bool {
+        match self.seat(place) {
+            Some(seat) => seat.is_closed,
+            None => false,
         }
     }
 
     /// Whether the connection at a place, whose socket takes no byte, must be ended: the broker
-    /// closed it, or it is owed more than this number of bytes.
-    pub(crate) fn is_lost(&mut self, place: u32, most_owed: usize) -> bool
+    /// closed it, or more bytes are pending for it at the broker than the limit.
+    pub(crate) fn is_lost(&mut self, place: u32, waiting: usize, most_owed: usize) -> bool
+        ensures within { result ≡ false → waiting ≤ most_owed }
         ensures clients { self.new.clients ≡ self.old.clients }
         ensures marked { self.new.marked ≡ self.old.marked }
         ensures over { self.new.over ≡ self.old.over }
         ensures failed { self.new.has_failed ≡ self.old.has_failed }
     {
-        let Some(seat) = self.seat(place) else {
-            return false;
-        };
-        if seat.is_closed {
-            return true;
+        if waiting <= most_owed {
+            return self.is_closed(place);
         }
-        if seat.owed <= most_owed {
-            return false;
+        if self.is_closed(place) {
+            return true;
         }
         self.report(Report::Slow { place });
         true
@@ -310,7 +275,7 @@ impl Notes {
     {
         match act {
             Act::Up(conn, key, _) => self.note_up(*conn, *key),
-            Act::Placed(key, message) => self.note_copy(*key, message),
+            Act::Placed(key, _) => self.note_copy(*key),
             Act::Closed(conn, why) => self.note_closed(*conn, *why),
             Act::Removed(key) => self.note_removed(*key),
             _ => {}
@@ -337,16 +302,15 @@ impl Notes {
     }
 
     // A copy is placed for a client.
-    fn note_copy(&mut self, key: ClientKey, message: &Message)
+    fn note_copy(&mut self, key: ClientKey)
         ensures failed { self.new.has_failed ≡ self.old.has_failed }
-        ensures noted { IsNoted (acts.Placed key message.now ∷ []) (get nat_eq self.old.clients) self.old.marked self.old.over
+        ensures noted { (message : Message) → IsNoted (acts.Placed key message ∷ []) (get nat_eq self.old.clients) self.old.marked self.old.over
             (get nat_eq self.new.clients) self.new.marked self.new.over }
     {
         let Some(place) = self.clients.get(&key).copied() else {
             return;
         };
         self.marked.put(place);
-        add_owed(&mut self.seats, place, size_of(message));
     }
 
     // A connection is closed.

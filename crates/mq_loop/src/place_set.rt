@@ -68,8 +68,13 @@ impl PlaceSet {
     }
 
     /// Whether the set may have a place. `false` means that it has none.
-    pub(crate) fn may_have_some(&self) -> bool {
-        !self.listed.is_empty() || self.has_unlisted
+    pub(crate) fn may_have_some(&self) -> bool
+        ensures { result ≡ false → (place : ℕ) → is_in place self.now ≡ false }
+    {
+        match self.listed.as_slice() {
+            [] => self.has_unlisted,
+            _ => true,
+        }
     }
 
     /// Puts a place into the set.

@@ -3,8 +3,6 @@
 /// Notes about the reads from the connection at a place.
 #[derive(Clone, Copy)]
 pub(crate) struct Reading {
-    /// The number of the connection among all that were opened. An older one has a smaller number.
-    pub(crate) age: u64,
     /// The time at which it was opened, in milliseconds.
     pub(crate) opened_at: u64,
     /// The age of the newest connection when this one last had nothing to read.
@@ -18,10 +16,9 @@ pub(crate) struct Reading {
 }
 
 impl Reading {
-    /// Notes about a connection that is opened.
+    /// Notes about a connection of this age that is opened.
     pub(crate) fn new(age: u64, now: u64) -> Reading {
         Reading {
-            age,
             opened_at: now,
             empty_at: age,
             is_ready: false,

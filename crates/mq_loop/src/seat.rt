@@ -7,8 +7,6 @@ use mq_topic::ClientKey;
 pub(crate) struct Seat {
     /// The client that is connected.
     pub(crate) client: Option<ClientKey>,
-    /// The number of bytes that were placed for the client since its output was last collected.
-    pub(crate) owed: usize,
     /// The broker closed it.
     pub(crate) is_closed: bool,
 }
@@ -18,7 +16,6 @@ impl Seat {
     pub(crate) fn new() -> Seat {
         Seat {
             client: None,
-            owed: 0,
             is_closed: false,
         }
     }

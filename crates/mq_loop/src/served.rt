@@ -1,10 +1,11 @@
 //! A broker and the connections that it serves.
 
-ghost use Rattle.std.specs.Prelude.{◌≡◌, ◌+◌, ◌≤◌, ◌<◌, ◌∷◌, [], ◌++◌, false, true, None, Some, IfErr, IfNone, IfOk, IfSome, OnErr, OnOk, OnSome, length, slice_set, take};
+ghost use Rattle.std.specs.Prelude.{◌≡◌, ◌+◌, ◌≤◌, ◌<◌, ◌==◌, ◌∷◌, [], ◌++◌, false, true, None, Some, IfErr, IfNone, IfOk, IfSome, OnErr, OnOk, OnSome, not, length, slice_set, take};
 ghost use Rattle.mq_route.specs.declared.event.HubEvent.TheVariants.{Bytes as BytesSeen, Collect, Ended, Opened, Tick};
 ghost use Rattle.mq_route.specs.Step.{HubStep};
 ghost use Rattle.mq_loop.specs.Accounts.{IsServed, line_at, name_at};
-ghost use Rattle.mq_loop.specs.Rounds.{AtOutputs, Collects, Hears, HearsNothing, IsFlushed, IsGiven, IsSame, IsWrittenAt, MayCollect, OthersStay, connections_in, exists_at, output_at};
+ghost use Rattle.mq_loop.specs.Calls.{Collecting, Reads, commit, step, with_calls};
+ghost use Rattle.mq_loop.specs.Rounds.{AtOutputs, Collects, Hears, HearsNothing, IsFlushed, IsGiven, IsSame, MayCollect, OthersStay, connections_in, exists_at, has_unread, kept_at, output_at, waiting_at};
 
 use crate::broker::{Broker, CommitFailure};
 use crate::connection::{Connection, Flushed};
@@ -67,7 +68,7 @@ impl<B: Broker, S: Socket> Model for Served<B, S> {
 
     ghost coded = { Prim.hlevel (codes, set.code {R = nat_cmp} coded_ℕ) };
 
-    ghost view = { λ s. served_state (B.state s.base.value) (B.state s.broker) s.connections.items (B.committed s.broker) };
+    ghost view = { λ s. served_state (B.state s.base.value) (B.state s.broker) s.connections.items (B.committed s.broker) (B.calls s.broker) };
 
     ghost invariant = { λ s. AreCarried (B.state s.base.value) (B.state s.broker) s.connections.items };
 }
@@ -88,6 +89,8 @@ fn take_some<B: Broker>(broker: &mut B, place: u32, bytes: &[u8]) -> Option<(Hub
     ensures step { IfSome result (λ r. HubStep (B.state broker.old) (BytesSeen (name_at place) (take r.1 bytes.now)) r.0 (B.state broker.new)) }
     ensures within { IfSome result (λ r. r.1 ≤ length bytes.now) }
     ensures none { IfNone result (B.state broker.new ≡ B.state broker.old) }
+    ensures calls { IfSome result (λ r. B.calls broker.new ≡ with_calls (B.calls broker.old) (step (BytesSeen (name_at place) (take r.1 bytes.now)) r.0 ∷ [])) }
+    ensures uncalled { IfNone result (B.calls broker.new ≡ B.calls broker.old) }
 {
     match broker.step_some(name_at(place), bytes, MOST_ACTS) {
         Ok((reply, count)) => Some((reply, count)),
@@ -99,7 +102,7 @@ impl<B: Broker + Drop, S: Socket + Drop> Served<B, S> {
     /// A broker that serves no connection yet.
     #[tactic(auto, using(crate::proofs::CarriedBytes::new_served))]
     pub fn new(alloc: Global, broker: B) -> Served<B, S>
-        ensures { result ≡ record { base = B.state broker; hub = B.state broker; lines = []; committed = B.committed broker } }
+        ensures { result ≡ record { base = B.state broker; hub = B.state broker; lines = []; committed = B.committed broker; calls = B.calls broker } }
     {
         Served {
             alloc,
@@ -158,6 +161,8 @@ impl<B: Broker + Drop, S: Socket + Drop> Served<B, S> {
         ensures err { OnErr result (self.new ≡ self.old) }
         ensures same { IsSame self.old self.new }
         ensures vacant { OnOk result (output_at place self.old.lines ≡ None) }
+        ensures within { OnOk result (place < length self.old.lines) }
+        ensures calls { IfOk result (λ reply. self.new.calls ≡ with_calls self.old.calls (step (Opened (name_at place)) reply ∷ [])) }
     {
         let at = place as usize;
         if at >= self.connections.len() || self.connections[at].is_some() {
@@ -172,6 +177,7 @@ impl<B: Broker + Drop, S: Socket + Drop> Served<B, S> {
     #[tactic(auto, using(crate::proofs::CarriedBytes::tick_served))]
     pub fn tick(&mut self, now: u64) -> Result<HubReply, HubRefusal>
         ensures step { IfOk result (λ reply. HubStep self.old.hub (Tick now) reply self.new.hub) }
+        ensures calls { IfOk result (λ reply. self.new.calls ≡ with_calls self.old.calls (step (Tick now) reply ∷ [])) }
         ensures lines { self.new.lines ≡ self.old.lines }
         ensures base { self.new.base ≡ self.old.base }
         ensures err { OnErr result (self.new ≡ self.old) }
@@ -181,9 +187,10 @@ impl<B: Broker + Drop, S: Socket + Drop> Served<B, S> {
 
     /// Makes the broker's step with bytes of a connection: with those that wait for a step, or else
     /// with bytes that are read into `buffer`, which must not be empty.
-    #[tactic(auto, using(crate::proofs::CarriedBytes::same_served, crate::proofs::CarriedBytes::none_served))]
+    #[tactic(auto, using(crate::proofs::CarriedBytes::same_served, crate::proofs::CarriedBytes::none_served, crate::proofs::Calling::reads_none, crate::proofs::Calling::reads_one))]
     pub fn read(&mut self, place: u32, buffer: &mut [u8]) -> Heard
         ensures step { Hears place self.old.hub self.new.hub result }
+        ensures calls { Reads place self.old.calls self.new.calls }
         ensures nothing { HearsNothing self.old.lines self.new.lines result }
         ensures others { OthersStay place self.old.lines self.new.lines }
         ensures exists { exists_at place self.new.lines ≡ exists_at place self.old.lines }
@@ -219,20 +226,24 @@ impl<B: Broker + Drop, S: Socket + Drop> Served<B, S> {
         Heard::Step(count, reply)
     }
 
-    /// Whether bytes of a connection wait for a step, or were lost.
-    pub fn has_unread(&self, place: u32) -> bool {
+    /// Whether bytes of a connection wait for a step, or it must be ended.
+    pub fn has_unread(&self, place: u32) -> bool
+        ensures { result ≡ has_unread (line_at place self.now.lines) }
+    {
         let at = place as usize;
         if at >= self.connections.len() {
             return false;
         }
         match &self.connections[at] {
-            Some(connection) => connection.is_finished() || !connection.unread().is_empty(),
+            Some(connection) => connection.has_unread(),
             None => false,
         }
     }
 
     /// Whether output is kept for a connection, because its socket did not take it.
-    pub fn is_blocked(&self, place: u32) -> bool {
+    pub fn is_blocked(&self, place: u32) -> bool
+        ensures { result ≡ not (length (kept_at place self.now.lines) == 0) }
+    {
         let at = place as usize;
         if at >= self.connections.len() {
             return false;
@@ -259,7 +270,9 @@ impl<B: Broker + Drop, S: Socket + Drop> Served<B, S> {
     }
 
     /// The number of bytes of output that are kept for a connection.
-    pub fn kept(&self, place: u32) -> usize {
+    pub fn kept(&self, place: u32) -> usize
+        ensures { result ≡ length (kept_at place self.now.lines) }
+    {
         let at = place as usize;
         if at >= self.connections.len() {
             return 0;
@@ -270,10 +283,18 @@ impl<B: Broker + Drop, S: Socket + Drop> Served<B, S> {
         }
     }
 
+    /// The number of bytes of output that are pending for a connection at the broker.
+    pub fn waiting(&self, place: u32) -> usize
+        ensures { result ≡ length (waiting_at place self.now) }
+    {
+        self.broker.hub().pending(name_at(place))
+    }
+
     /// Writes the output that is kept for a connection, as far as its socket takes it.
     pub fn flush(&mut self, place: u32) -> Flushed
         ensures hub { self.new.hub ≡ self.old.hub }
         ensures committed { self.new.committed ≡ self.old.committed }
+        ensures calls { self.new.calls ≡ self.old.calls }
         ensures others { OthersStay place self.old.lines self.new.lines }
         ensures here { AtOutputs (output_at place self.old.lines) (output_at place self.new.lines) (IsFlushed result) }
         ensures same { IsSame self.old self.new }
@@ -291,13 +312,14 @@ impl<B: Broker + Drop, S: Socket + Drop> Served<B, S> {
     /// Collects the pending output of a connection, unless output is kept for it, and keeps it to
     /// be written. All steps must be committed. Returns the reply, or `None` if nothing was
     /// collected.
-    #[tactic(auto, using(crate::proofs::CarriedBytes::collect_served))]
+    #[tactic(auto, using(crate::proofs::CarriedBytes::collect_served, crate::proofs::Calling::collecting_none, crate::proofs::Calling::collecting_one))]
     pub fn collect(&mut self, place: u32) -> Result<Option<bool>, HubRefusal>
         requires committed { self.old.committed ≡ true }
         ensures step { IfOk result (Collects place self.old.hub self.new.hub (output_at place self.old.lines)) }
         ensures others { OthersStay place self.old.lines self.new.lines }
         ensures here { AtOutputs (output_at place self.old.lines) (output_at place self.new.lines) (λ old new. new.finished ≡ old.finished) }
         ensures still { self.new.committed ≡ self.old.committed }
+        ensures calls { Collecting self.old.calls self.new.calls }
         ensures same { IsSame self.old self.new }
         ensures err { OnErr result (self.new ≡ self.old) }
     {
@@ -318,11 +340,13 @@ impl<B: Broker + Drop, S: Socket + Drop> Served<B, S> {
 
     /// Writes the pending output of a connection, at the broker and here, as far as its socket
     /// takes it. Keeps the rest. All steps must be committed.
+    #[tactic(auto, using(crate::proofs::Calling::collecting_none, crate::proofs::Calling::collecting_same))]
     pub fn give(&mut self, place: u32) -> Given
         requires committed { self.old.committed ≡ true }
-        ensures given { IsGiven result (IsWrittenAt place self.new) }
+        ensures given { IsGiven result place self.new }
         ensures hub { MayCollect place self.old.hub self.new.hub }
         ensures still { self.new.committed ≡ self.old.committed }
+        ensures calls { Collecting self.old.calls self.new.calls }
         ensures others { OthersStay place self.old.lines self.new.lines }
         ensures exists { exists_at place self.new.lines ≡ exists_at place self.old.lines }
         ensures same { IsSame self.old self.new }
@@ -354,6 +378,7 @@ impl<B: Broker + Drop, S: Socket + Drop> Served<B, S> {
     #[tactic(auto, using(crate::proofs::CarriedBytes::end_served))]
     pub fn end(&mut self, place: u32) -> Result<Option<HubReply>, HubRefusal>
         ensures step { IfOk result (λ made. IfSome made (λ reply. HubStep self.old.hub (Ended (name_at place)) reply self.new.hub)) }
+        ensures calls { IfOk result (λ made. IfSome made (λ reply. self.new.calls ≡ with_calls self.old.calls (step (Ended (name_at place)) reply ∷ []))) }
         ensures none { IfOk result (λ made. IfNone made (self.new ≡ self.old)) }
         ensures ended { OnOk result (output_at place self.new.lines ≡ None) }
         ensures fewer { IfOk result (λ made. OnSome made (connections_in self.new.lines + 1 ≡ connections_in self.old.lines)) }
@@ -378,6 +403,8 @@ impl<B: Broker + Drop, S: Socket + Drop> Served<B, S> {
         ensures lines { self.new.lines ≡ self.old.lines }
         ensures base { self.new.base ≡ self.old.base }
         ensures sure { OnErr result (B.can_fail ≡ true) }
+        ensures calls { OnOk result (self.new.calls ≡ with_calls self.old.calls (commit ∷ [])) }
+        ensures uncalled { OnErr result (self.new.calls ≡ self.old.calls) }
     {
         self.broker.commit()
     }

@@ -1,9 +1,10 @@
 //! A broker and its connections, with notes about which have output and which are over.
 
-ghost use Rattle.std.specs.Prelude.{◌≡◌, ◌<◌, ◌≤◌, ◌⊎◌, ◌||◌, ◌∷◌, [], ◌++◌, ℕ, false, true, None, Some, IfOk, IfSome, IfNone, OnErr, OnOk, OnSome, length};
-ghost use Rattle.mq_loop.specs.Accounts.{IsServed, served_state};
+ghost use Rattle.std.specs.Prelude.{◌≡◌, ◌<◌, ◌≤◌, ◌⊎◌, ◌||◌, ◌∷◌, [], ◌++◌, ◌-◌, ◌^◌, ℕ, false, true, not, ◌==◌, None, Some, IfOk, IfSome, IfNone, OnErr, OnOk, OnSome, length, min};
+ghost use Rattle.mq_loop.specs.Accounts.{IsServed, line_at, served_state};
+ghost use Rattle.mq_loop.specs.Calls.{Collecting, Quietly, Reads, commit, with_calls};
 ghost use Rattle.mq_loop.specs.Places.{count_in};
-ghost use Rattle.mq_loop.specs.Rounds.{AreEnded, IsEmpty, IsReached, IsSettled, connections_in, ends_left, watched_state};
+ghost use Rattle.mq_loop.specs.Rounds.{AreBounded, AreEnded, IsEmpty, IsReached, IsSettled, connections_in, ends_left, exists_at, has_unread, kept_at, pending_at, watched_state};
 
 use crate::broker::{Broker, CommitFailure};
 use crate::connection::Flushed;
@@ -37,9 +38,9 @@ impl<B: Broker + Drop, S: Socket + Drop> Model for Watched<B, S> {
 
     ghost coded = { Prim.hlevel (codes, set.code {R = nat_cmp} coded_ℕ) };
 
-    ghost view = { λ w. watched_state w.served w.notes.marked w.notes.over w.notes.has_failed };
+    ghost view = { λ w. watched_state w.served w.most_owed w.notes.marked w.notes.over w.notes.has_failed };
 
-    ghost invariant = { λ w. IsWatched w.served (get nat_eq w.notes.clients) w.notes.marked w.notes.over };
+    ghost invariant = { λ w. IsWatched w.most_owed w.served (get nat_eq w.notes.clients) w.notes.marked w.notes.over };
 }
 
 // Whether one of two is true.
@@ -53,7 +54,7 @@ impl<B: Broker + Drop, S: Socket + Drop> Watched<B, S> {
     /// A broker that serves no connection yet.
     pub(crate) fn new(alloc: Global, broker: B, most_owed: usize) -> Watched<B, S>
         requires { IsReached (B.state broker) }
-        ensures { result ≡ watched_state (served_state (B.state broker) (B.state broker) [] (B.committed broker)) [] [] false }
+        ensures { result ≡ watched_state (served_state (B.state broker) (B.state broker) [] (B.committed broker) (B.calls broker)) most_owed [] [] false }
     {
         Watched {
             served: Served::new(alloc, broker),
@@ -79,6 +80,7 @@ impl<B: Broker + Drop, S: Socket + Drop> Watched<B, S> {
     /// Adds a place without a connection.
     pub(crate) fn add_place(&mut self) -> Result<u32, AllocError>
         ensures base { self.new.served.base ≡ self.old.served.base }
+        ensures calls { self.new.served.calls ≡ self.old.served.calls }
     {
         self.notes.add_place(self.served.places())?;
         let place = self.served.add_place()?;
@@ -88,10 +90,13 @@ impl<B: Broker + Drop, S: Socket + Drop> Watched<B, S> {
 
     /// Opens a connection over a fresh socket at a place without a connection. Returns false, and
     /// drops the socket, if the place has a connection, or if an allocation fails.
+    #[tactic(auto, using(crate::proofs::Calling::opened_exists))]
     pub(crate) fn open(&mut self, place: u32, socket: S) -> bool
         requires came { IfSome (S.came socket) (λ bytes. bytes ≡ []) }
         requires went { IfSome (S.went socket) (λ bytes. bytes ≡ []) }
         ensures base { self.new.served.base ≡ self.old.served.base }
+        ensures exists { result ≡ true → exists_at place self.new.served.lines ≡ true }
+        ensures refused { result ≡ false → self.new ≡ self.old }
     {
         self.served.laws();
         client_laws();
@@ -109,8 +114,10 @@ impl<B: Broker + Drop, S: Socket + Drop> Watched<B, S> {
     }
 
     /// Tells the broker the current time, in milliseconds. `None` if an allocation failed.
+    #[tactic(auto, using(crate::proofs::Calling::quiet_none, crate::proofs::Calling::quiet_tick))]
     pub(crate) fn tick(&mut self, now: u64) -> Option<HubReply>
         ensures base { self.new.served.base ≡ self.old.served.base }
+        ensures calls { Quietly self.old.served.calls self.new.served.calls }
     {
         self.served.laws();
         client_laws();
@@ -125,6 +132,7 @@ impl<B: Broker + Drop, S: Socket + Drop> Watched<B, S> {
     /// Makes the broker's step with bytes of a connection, as [`Served::read`].
     pub(crate) fn read(&mut self, place: u32, buffer: &mut [u8]) -> Heard
         ensures base { self.new.served.base ≡ self.old.served.base }
+        ensures calls { Reads place self.old.served.calls self.new.served.calls }
     {
         self.served.laws();
         client_laws();
@@ -144,6 +152,7 @@ impl<B: Broker + Drop, S: Socket + Drop> Watched<B, S> {
     /// Writes the output that is kept for a connection. Returns whether nothing is kept any more.
     pub(crate) fn flush(&mut self, place: u32) -> bool
         ensures base { self.new.served.base ≡ self.old.served.base }
+        ensures calls { self.new.served.calls ≡ self.old.served.calls }
     {
         match self.served.flush(place) {
             Flushed::All => {
@@ -161,8 +170,11 @@ impl<B: Broker + Drop, S: Socket + Drop> Watched<B, S> {
     /// Ends the connections that are over, commits all steps, and writes the output of the others.
     ///
     /// On `Err` output that was committed before is written, and no other.
+    #[tactic(auto, using(crate::proofs::Calling::quiet_then))]
     pub(crate) fn settle<O: Observer>(&mut self, observer: &mut O) -> Result<(), CommitFailure>
         ensures settled { OnOk result (IsSettled self.new) }
+        ensures bounded { OnOk result (AreBounded self.new) }
+        ensures calls { Quietly self.old.served.calls self.new.served.calls }
         ensures committed { OnOk result (self.new.served.committed ≡ true) }
         ensures sure { OnErr result (B.can_fail ≡ true) }
         ensures base { self.new.served.base ≡ self.old.served.base }
@@ -178,8 +190,10 @@ impl<B: Broker + Drop, S: Socket + Drop> Watched<B, S> {
     }
 
     // Commits all steps, and then writes the output of each connection that is marked.
+    #[tactic(auto, using(crate::proofs::Calling::quiet_same, crate::proofs::Calling::quiet_given))]
     fn commit_and_give<O: Observer>(&mut self, observer: &mut O) -> Result<(), CommitFailure>
         ensures marked { OnOk result (IsEmpty self.new.marked) }
+        ensures calls { Quietly self.old.served.calls self.new.served.calls }
         ensures committed { OnOk result (self.new.served.committed ≡ true) }
         ensures sure { OnErr result (B.can_fail ≡ true) }
         ensures connections { connections_in self.new.served.lines ≡ connections_in self.old.served.lines }
@@ -194,6 +208,8 @@ impl<B: Broker + Drop, S: Socket + Drop> Watched<B, S> {
     fn commit(&mut self) -> Result<(), CommitFailure>
         ensures committed { OnOk result (self.new.served.committed ≡ true) }
         ensures sure { OnErr result (B.can_fail ≡ true) }
+        ensures calls { OnOk result (self.new.served.calls ≡ with_calls self.old.served.calls (commit ∷ [])) }
+        ensures uncalled { OnErr result (self.new.served.calls ≡ self.old.served.calls) }
         ensures lines { self.new.served.lines ≡ self.old.served.lines }
         ensures base { self.new.served.base ≡ self.old.served.base }
     {
@@ -202,14 +218,17 @@ impl<B: Broker + Drop, S: Socket + Drop> Watched<B, S> {
 
     // Nothing to do: states the end of a round.
     fn check_settled(&self)
-        ensures { IsEmpty self.now.marked → AreEnded self.now → IsSettled self.now }
+        ensures settled { IsEmpty self.now.marked → AreEnded self.now → IsSettled self.now }
+        ensures bounded { IsEmpty self.now.marked → AreEnded self.now → AreBounded self.now }
     {
         let _ = &self.served;
     }
 
     // Ends each connection that is over. Returns whether a connection was ended.
+    #[tactic(auto, using(crate::proofs::Calling::quiet_none, crate::proofs::Calling::quiet_then))]
     fn end_all<O: Observer>(&mut self, observer: &mut O) -> bool
         ensures ended { AreEnded self.new }
+        ensures calls { Quietly self.old.served.calls self.new.served.calls }
         ensures same { result ≡ false → self.new.served ≡ self.old.served }
         ensures some { result ≡ true → connections_in self.new.served.lines < connections_in self.old.served.lines }
         ensures none { result ≡ false → self.new.marked ≡ self.old.marked }
@@ -224,8 +243,10 @@ impl<B: Broker + Drop, S: Socket + Drop> Watched<B, S> {
 
     // Takes a place that is over, and ends its connection. Returns whether there was one; `None` if
     // no place is over, or if an allocation fails.
+    #[tactic(auto, using(crate::proofs::Calling::quiet_none, crate::proofs::Calling::quiet_same, crate::proofs::Calling::quiet_end))]
     fn end_next<O: Observer>(&mut self, observer: &mut O) -> Option<bool>
         ensures left { OnSome result (ends_left self.new < ends_left self.old) }
+        ensures calls { Quietly self.old.served.calls self.new.served.calls }
         ensures some { IfSome result (λ is_ended. is_ended ≡ true → connections_in self.new.served.lines < connections_in self.old.served.lines) }
         ensures same { IfSome result (λ is_ended. is_ended ≡ false → (self.new.marked ≡ self.old.marked) × (self.new.served ≡ self.old.served)) }
         ensures none { IfNone result ((AreEnded self.new) × (self.new.marked ≡ self.old.marked) × (self.new.served ≡ self.old.served)) }
@@ -254,9 +275,11 @@ impl<B: Broker + Drop, S: Socket + Drop> Watched<B, S> {
     }
 
     // Writes the output of each connection that is marked. All steps must be committed.
+    #[tactic(auto, using(crate::proofs::Calling::collecting_none, crate::proofs::Calling::collecting_then))]
     fn give_all<O: Observer>(&mut self, observer: &mut O)
         requires committed { self.old.served.committed ≡ true }
         ensures still { self.new.served.committed ≡ true }
+        ensures calls { Collecting self.old.served.calls self.new.served.calls }
         ensures marked { IsEmpty self.new.marked }
         ensures connections { connections_in self.new.served.lines ≡ connections_in self.old.served.lines }
         ensures base { self.new.served.base ≡ self.old.served.base }
@@ -265,9 +288,11 @@ impl<B: Broker + Drop, S: Socket + Drop> Watched<B, S> {
     }
 
     // Writes the output of a connection that is marked. Returns false if none is.
+    #[tactic(auto, using(crate::proofs::Calling::collecting_none))]
     fn give_next<O: Observer>(&mut self, observer: &mut O) -> bool
         requires committed { self.old.served.committed ≡ true }
         ensures still { self.new.served.committed ≡ true }
+        ensures calls { Collecting self.old.served.calls self.new.served.calls }
         ensures none { result ≡ false → IsEmpty self.new.marked }
         ensures some { result ≡ true → count_in self.new.marked < count_in self.old.marked }
         ensures connections { connections_in self.new.served.lines ≡ connections_in self.old.served.lines }
@@ -280,12 +305,10 @@ impl<B: Broker + Drop, S: Socket + Drop> Watched<B, S> {
             return false;
         };
         match self.served.give(place) {
-            Given::Written(count) => {
-                observer.on_collect(count);
-                self.notes.settle(place);
-            }
+            Given::Written(count) => observer.on_collect(count),
             Given::Full => {
-                if self.notes.is_lost(place, self.most_owed) {
+                let bytes = self.served.waiting(place);
+                if self.notes.is_lost(place, bytes, self.most_owed) {
                     self.notes.over.put(place);
                 }
             }
@@ -295,20 +318,32 @@ impl<B: Broker + Drop, S: Socket + Drop> Watched<B, S> {
     }
 
     /// Whether output is kept for a connection, because its socket did not take it.
-    pub(crate) fn is_blocked(&self, place: u32) -> bool {
+    pub(crate) fn is_blocked(&self, place: u32) -> bool
+        ensures { result ≡ not (length (kept_at place self.now.served.lines) == 0) }
+    {
         self.served.is_blocked(place)
     }
 
-    /// Whether bytes of a connection wait for a step, or were lost.
-    pub(crate) fn has_unread(&self, place: u32) -> bool {
+    /// Whether bytes of a connection wait for a step, or it must be ended.
+    pub(crate) fn has_unread(&self, place: u32) -> bool
+        ensures { result ≡ has_unread (line_at place self.now.served.lines) }
+    {
         self.served.has_unread(place)
     }
 
-    /// The number of bytes that are kept for a connection or owed to it.
-    pub(crate) fn pending(&self, place: u32) -> usize {
-        self.served
-            .kept(place)
-            .saturating_add(self.notes.owed(place))
+    /// The number of bytes of output that are pending for a connection, here and at the broker.
+    pub(crate) fn pending(&self, place: u32) -> usize
+        ensures { result ≡ min (pending_at place self.now.served) (2 ^ 64 - 1) }
+    {
+        let kept = self.served.kept(place);
+        kept.saturating_add(self.served.waiting(place))
+    }
+
+    /// The number of places.
+    pub(crate) fn places(&self) -> usize
+        ensures { result ≡ length self.now.served.lines }
+    {
+        self.served.places()
     }
 
     /// The notes.
@@ -316,8 +351,10 @@ impl<B: Broker + Drop, S: Socket + Drop> Watched<B, S> {
         &self.notes
     }
 
-    /// Whether a connection must be ended.
-    pub(crate) fn has_over(&self) -> bool {
+    /// Whether a connection may have to be ended. `false` means that none must.
+    pub(crate) fn may_have_over(&self) -> bool
+        ensures { result ≡ false → IsEmpty self.now.over }
+    {
         self.notes.over.may_have_some()
     }
 

@@ -14,8 +14,6 @@ mod record;
 mod rows;
 mod summary;
 mod svg;
-#[cfg(test)]
-mod tests;
 mod texts;
 
 pub use crate::entry::{Entry, Note};

@@ -129,7 +129,10 @@ fn open_options(
     ensures sessions { result.max_sessions ≡ words.now.max_sessions }
     ensures packet { result.max_packet ≡ words.now.max_packet }
     ensures capacity { result.capacity ≡ words.now.capacity }
+    ensures stored { result.max_stored ≡ words.now.max_stored }
     ensures waiting { result.max_waiting ≡ words.now.max_waiting }
+    ensures session_expiry { result.session_expiry
+        ≡ option_map (λ seconds. seconds * 1000) words.now.session_expiry }
     ensures when_full { result.when_full ≡ when_full_of words.now.when_full }
     ensures connect_within { result.connect_within
         ≡ option_map (λ seconds. seconds * 1000) words.now.connect_within }
@@ -141,7 +144,9 @@ fn open_options(
         max_sessions: words.max_sessions as usize,
         max_packet: words.max_packet,
         capacity: words.capacity,
-        max_waiting: words.max_waiting as usize,
+        max_stored: u64::from(words.max_stored),
+        max_waiting: u64::from(words.max_waiting),
+        session_expiry: milliseconds_of(words.session_expiry),
         when_full: when_full_of(words.when_full),
         connect_within: milliseconds_of(words.connect_within),
         users: None,

@@ -25,8 +25,6 @@ mod encode;
 mod fault;
 mod laws;
 mod numbers;
-#[cfg(test)]
-mod tests;
 
 pub use crate::decode::{decode_event, decode_events};
 pub use crate::encode::{encode_event, encode_piece, is_recorded, shorten_piece};

@@ -26,6 +26,9 @@ fn config() -> Option<HubConfig>
         hashed_users: None,
         when_full: WhenFull::ClosePublisher,
         connect_within: None,
+        session_expiry: None,
+        most_stored: None,
+        most_waiting: None,
     })
 }
 

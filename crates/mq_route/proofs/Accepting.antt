@@ -20,7 +20,7 @@ use Rattle.mq_packet.specs.declared.publish.Delivery.{Delivery}
 use Rattle.mq_packet.specs.Encoding.{encodings}
 use Rattle.mq_decode.specs.declared.fault.DecodeFault.{DecodeFault}
 use Rattle.mq_decode.specs.Limits.{Bounds}
-use Rattle.mq_flow.specs.Laws.{IsSound, IdentifierLaws}
+use Rattle.mq_flow.specs.Laws.{IdentifierLaws}
 use Rattle.mq_flow.specs.Next.{NextLaws}
 use Rattle.mq_flow.specs.Receiver.{is_new}
 use Rattle.mq_flow.specs.Window.{fits_window}
@@ -47,20 +47,21 @@ use Rattle.mq_route.specs.declared.connection_state.ConnectionState.{ConnectionS
 use Rattle.mq_route.specs.declared.connection_state.ConnectionState.TheVariants.{AwaitingConnect, ConnectedAs, Closed}
 use Rattle.mq_route.specs.declared.connection_state.ConnectionTerms.{ConnectionTerms}
 use Rattle.mq_route.specs.Copies.{is_hidden_name, copy_by, will_message}
-use Rattle.mq_route.specs.Hub.{HubState, HubSession, HubConnection, new_hub, new_end, no_end, stage_of, changed, held_on, is_open, up_on, key_of, end_of, with_end, without_session, for_key, copies_of}
+use Rattle.mq_route.specs.Hub.{HubState, HubSession, HubConnection, new_hub, new_end, no_end, stage_of, key_on, changed, held_on, is_open, up_on, key_of, end_of, with_end, with_left, without_session, for_key, copies_of}
 use Rattle.mq_route.specs.Welcome.{client_of, refusal, ends_with}
-use Rattle.mq_route.specs.Work.{Work, begin, said, with_sessions, staged, shut, put_on, put_where, does, drops_copies, is_missed, have_room, deliver, place, place_all, publishes_next, remove, remove_if, last_will, will_after, leaves_behind, close, subscribed, unsubscribed, retained_copies}
+use Rattle.mq_route.specs.Work.{Work, begin, said, with_sessions, staged, shut, put_on, put_where, does, drops_copies, is_missed, have_room, deliver, place, place_all, publishes_next, remove, remove_if, last_will, will_after, leaves_behind, shut_down, close, subscribed, unsubscribed, retained_copies}
 use Rattle.mq_route.specs.Arrives.{Growth, granted, due, answers, answers_all, replies, greeting, terms_of, resume_session, new_session, start_session, take_over, goes_on, accept_connect, on_connect, on_first_packet, dispatch_packet, touched_on, arrives, takes, closes_by, broken, on_malformed}
-use Rattle.mq_route.specs.Step.{holding, Comes, Arrives, Waits, Breaks, Starves, LetsGo, Ticks, Done, InTime, Late, Does, ended_open, told}
+use Rattle.mq_route.specs.Step.{holding, Comes, Arrives, Waits, Breaks, Starves, LetsGo, Ticks, Done, InTime, Late, Does, ended_open, expired_keys, remove_all, expire, told}
 use Rattle.mq_route.specs.Runs.{Episode, Follows}
 use Rattle.mq_route.specs.Dropped.{when_over}
-use Rattle.mq_route.specs.Accepted.{Placing, AreAccepts, is_miss, marked_for, placings, in_share, in_will, in_leaving, in_close, in_answer, in_answers, in_replies, in_take_over, in_welcome, in_first, in_packet, in_takes, in_breaks, in_comes, in_ticks, in_step, AcceptLaws}
+use Rattle.mq_route.specs.Accepted.{Placing, AreAccepts, is_miss, is_stored_miss, is_plain_miss, marked_for, placings, in_share, in_will, in_leaving, in_close, in_answer, in_answers, in_replies, in_take_over, in_welcome, in_first, in_packet, in_takes, in_breaks, in_comes, in_ticks, in_step, AcceptLaws}
 use Rattle.mq_route.specs.Routed.{marked_by, marked}
 use Rattle.mq_route.proofs.Lines.{grown, names_changed, ups_changed, up_map}
-use Rattle.mq_route.proofs.Sessions.{has, has_with, has_without, end_without, has_new, end_new, no_session}
+use Rattle.mq_route.proofs.Sessions.{has, has_left, has_with, has_without, end_left, end_without, has_new, end_new, no_session}
 use Rattle.mq_route.proofs.Changes.{names_grown, ups_grown, retaining}
 use Rattle.mq_route.proofs.Events.{acts_are}
-use Rattle.mq_route.proofs.Books.{Each, each_filter, each_weaker, each_put, Stands, Rowed, copies_stand, retained_stand, put_alike, does_alike, Holds, holds_alike, holds_with, holds_does, Room, room, room_with, Whole, accepting, and_both}
+use Rattle.mq_route.proofs.StoredBytes.{IsStored}
+use Rattle.mq_route.proofs.Books.{Each, each_filter, each_weaker, each_put, Stands, Rowed, copies_stand, retained_stand, put_alike, does_alike, IsKept, blank_kept, gets_kept, opened_kept, dropped_kept, Holds, holds_alike, holds_with, holds_does, Room, room, room_with, Whole, accepting, and_both}
 
 -- ---- reports of an end
 
@@ -248,29 +249,32 @@ accepts-append : (ps qs : List Placing) → AreAccepts ps → AreAccepts qs → 
 accepts-append [] qs f g = g
 accepts-append (p ∷ ps) qs f g = (f.0, accepts-append ps qs f.1 g)
 
-module _ (capacity : ℕ) (drop : Bool) (ids : IdentifierLaws) (next : NextLaws) (sound : SoundLaws) (small : capacity ≤ 65535) where
+module _ (config : HubConfig) (ids : IdentifierLaws) (next : NextLaws) (sound : SoundLaws) (small : config.capacity ≤ 65535) where
   abbrev Kept : Work → Type 0
-  Kept w = Holds capacity drop w.hub
+  Kept w = Holds config w.hub
 
   -- from one work to another, these copies are placed and accepted, or missed, and the books stay
   -- sound
   record Goes (w : Work) (ps : List Placing) (v : Work) : Type 0 where
     accepts : AreAccepts ps
     kept : Kept v
-    whole : Whole capacity drop ids next small ps
+    whole : Whole config ids next small ps
     places : Places w.did ps v.did
 
   go_on : (w v x : Work) (ps qs : List Placing) → Goes w ps v → Goes v qs x → Goes w (ps ++ qs) x
   go_on w v x ps qs f g = record {
     accepts = accepts-append ps qs f.accepts g.accepts;
     kept = g.kept;
-    whole = λ keep. list_any-append is_miss ps qs ∙ or_from (list_any is_miss ps) (list_any is_miss qs) (f.whole keep) (g.whole keep);
+    whole = (
+      λ keep. list_any-append is_stored_miss ps qs ∙ or_from (list_any is_stored_miss ps) (list_any is_stored_miss qs) (f.whole.0 keep) (g.whole.0 keep),
+      λ unlimited. list_any-append is_plain_miss ps qs ∙ or_from (list_any is_plain_miss ps) (list_any is_plain_miss qs) (f.whole.1 unlimited) (g.whole.1 unlimited),
+    );
     places = λ c. g.places c ∙ ap (λ (l : List (Bool × Message)). l ++ marked_for c qs) (f.places c) ∙ append_assoc (marked c w.did) (marked_for c ps) (marked_for c qs)
         ∙ ap (λ (l : List (Bool × Message)). marked c w.did ++ l) (sym (marked_for-append c ps qs));
   }
 
   quiet : (w v : Work) → Still w.did v.did → Kept v → Goes w [] v
-  quiet w v still h = record { accepts = tt; kept = h; whole = λ keep. refl; places = λ c. still c ∙ sym (append-nil (marked c w.did)) }
+  quiet w v still h = record { accepts = tt; kept = h; whole = (λ keep. refl, λ unlimited. refl); places = λ c. still c ∙ sym (append-nil (marked c w.did)) }
 
   after_quiet : (w v x : Work) (ps : List Placing) → Still w.did v.did → Goes v ps x → Goes w ps x
   after_quiet w v x ps still g = record { accepts = g.accepts; kept = g.kept; whole = g.whole; places = λ c. g.places c ∙ ap (λ (l : List (Bool × Message)). l ++ marked_for c ps) (still c) }
@@ -278,12 +282,12 @@ module _ (capacity : ℕ) (drop : Bool) (ids : IdentifierLaws) (next : NextLaws)
   then_quiet : (w v x : Work) (ps : List Placing) → Goes w ps v → Goes v [] x → Goes w ps x
   then_quiet w v x ps g q = record { accepts = g.accepts; kept = q.kept; whole = g.whole; places = λ c. q.places c ∙ append-nil (marked c v.did) ∙ g.places c }
 
-  share_goes : (act : Act) (m : Message) (w : Work) → Idle act → Kept w → Room capacity drop (copies_of m w.hub) w.hub.sessions → Goes w (in_share act m w) (deliver act m w)
+  share_goes : (act : Act) (m : Message) (w : Work) → Idle act → Kept w → Room config (copies_of m w.hub) w.hub.sessions → Goes w (in_share act m w) (deliver act m w)
   unfolding deliver
   share_goes act m w none h r =
       let v = retaining act m w in
       let copies = copies_of m w.hub in
-      let a = accepting capacity drop ids next small copies v (record { is = h.is; policy = h.policy; books = h.books; rows = h.rows }) (copies_stand (Stands w.hub.sessions) m w.hub h.rows) r in
+      let a = accepting config ids next small copies v (record { is = h.is; books = h.books; rows = h.rows }) (copies_stand (Stands w.hub.sessions) m w.hub h.rows) r in
       after_quiet w v (place_all copies v) (placings copies v) (still_more act none w.did) (record { accepts = a.0; kept = a.1; whole = a.2; places = placings_place copies v })
 
   -- ---- subscriptions
@@ -296,13 +300,13 @@ module _ (capacity : ℕ) (drop : Bool) (ids : IdentifierLaws) (next : NextLaws)
   subscribed_kept key [] w there h = h
   subscribed_kept key (r ∷ rs) w there h =
       subscribed_kept key rs (said (acts.Subscribed key r.filter r.qos) (record w { hub = record w.hub { rows = with_row key r.filter r.qos w.hub.rows } })) there
-      (record { is = h.is; policy = h.policy; books = h.books; rows = each_put key_cmp (λ k. Stands w.hub.sessions k.0) (key, r.filter) r.qos w.hub.rows there h.rows })
+      (record { is = h.is; books = h.books; rows = each_put key_cmp (λ k. Stands w.hub.sessions k.0) (key, r.filter) r.qos w.hub.rows there h.rows })
 
   unsubscribed_kept : (key : ℕ) (fs : List (List ℕ)) (w : Work) → Kept w → Kept (unsubscribed key fs w)
   unsubscribed_kept key [] w h = h
   unsubscribed_kept key (f ∷ fs) w h =
       unsubscribed_kept key fs (said (acts.Unsubscribed key f) (record w { hub = record w.hub { rows = without_row key f w.hub.rows } }))
-      (record { is = h.is; policy = h.policy; books = h.books; rows = each_filter (λ (r : Row). Stands w.hub.sessions r.0.0) (λ r. not (is_key key f r.0)) w.hub.rows h.rows })
+      (record { is = h.is; books = h.books; rows = each_filter (λ (r : Row). Stands w.hub.sessions r.0.0) (λ r. not (is_key key f r.0)) w.hub.rows h.rows })
 
   subscribed_still : (key : ℕ) (rs : List Request) (w : Work) → Still w.did (subscribed key rs w).did
   subscribed_still key [] w c = refl
@@ -321,12 +325,12 @@ module _ (capacity : ℕ) (drop : Bool) (ids : IdentifierLaws) (next : NextLaws)
   quiet_one : (k : Conn) (key : ℕ) (one : Happening) (w : Work) → Quiet one → Kept w → Goes w [] (answers k key one w)
   unfolding answers
   quiet_one k key (happens.Up present) w q h =
-      quiet w (said (acts.Up k key present) w) (still_more (acts.Up k key present) (up_idle k key present) w.did) (record { is = h.is; policy = h.policy; books = h.books; rows = h.rows })
+      quiet w (said (acts.Up k key present) w) (still_more (acts.Up k key present) (up_idle k key present) w.did) (record { is = h.is; books = h.books; rows = h.rows })
   quiet_one k key (happens.Unsubscribe i filters) w q h =
       let v = unsubscribed key filters w in
       let u = unsubscribed_kept key filters w h in
       quiet w (does key (unsubacks i) v) (λ c. same_still v.did (does key (unsubacks i) v).did (does_did key (unsubacks i) v) c ∙ unsubscribed_still key filters w c)
-      (holds_does capacity drop key (unsubacks i) v (u.books key) u)
+      (holds_does config key (unsubacks i) v (u.books key) u)
   quiet_one k key (happens.Handed m) w q h = absurd q
   quiet_one k key (happens.Subscribe i requests) w q h = absurd q
   quiet_one k key (happens.SubAck i codes) w q h = quiet w w (λ c. refl) h
@@ -351,13 +355,13 @@ module _ (capacity : ℕ) (drop : Bool) (ids : IdentifierLaws) (next : NextLaws)
   -- ---- a packet on a connected connection
 
   -- a move that leaves the end's book unchanged leaves the room for copies unchanged
-  room_does : (copies : List (ℕ × Message)) (key : ℕ) (move : End → Reply) (w : Work) → (move (end_of key w.hub.sessions)).end.book ≡ (end_of key w.hub.sessions).book → Room capacity drop copies w.hub.sessions → Room capacity drop copies (does key move w).hub.sessions
+  room_does : (copies : List (ℕ × Message)) (key : ℕ) (move : End → Reply) (w : Work) → (move (end_of key w.hub.sessions)).end.book ≡ (end_of key w.hub.sessions).book → Room config copies w.hub.sessions → Room config copies (does key move w).hub.sessions
   room_does copies key move w same r =
-      subst (Room capacity drop copies) (sym (does_alike key move w).0) (room_with capacity drop copies key (move (end_of key w.hub.sessions)).end w.hub.sessions same r)
+      subst (Room config copies) (sym (does_alike key move w).0) (room_with config copies key (move (end_of key w.hub.sessions)).end w.hub.sessions same r)
 
   -- the end's reports make these copies due, and there is room for them
-  due_room : (key : ℕ) (all : List Happening) (copies : List (ℕ × Message)) (w : Work) → Kept w → due key w.hub all ≡ copies → have_room (due key w.hub all) w.hub ≡ true → Room capacity drop copies w.hub.sessions
-  due_room key all copies w h same e = room capacity drop copies w.hub h (subst (λ (c : List (ℕ × Message)). have_room c w.hub ≡ true) same e)
+  due_room : (key : ℕ) (all : List Happening) (copies : List (ℕ × Message)) (w : Work) → Kept w → due key w.hub all ≡ copies → have_room (due key w.hub all) w.hub ≡ true → Room config copies w.hub.sessions
+  due_room key all copies w h same e = room config copies w.hub h (subst (λ (c : List (ℕ × Message)). have_room c w.hub ≡ true) same e)
 
   handed_goes : (k : Conn) (key : ℕ) (m : Message) (move : End → Reply) (w : Work) → (move (end_of key w.hub.sessions)).end.book ≡ (end_of key w.hub.sessions).book → Kept w → have_room (due key w.hub (happens.Handed m ∷ [])) w.hub ≡ true
       → Goes (does key move w) (in_answers k key (happens.Handed m ∷ []) (does key move w)) (answers_all k key (happens.Handed m ∷ []) (does key move w))
@@ -365,10 +369,10 @@ module _ (capacity : ℕ) (drop : Bool) (ids : IdentifierLaws) (next : NextLaws)
   handed_goes k key m move w same h e =
       let v = does key move w in
       let copies = copies_of m w.hub in
-      let hold = holds_does capacity drop key move w (subst (IsSound capacity) (sym same) (h.books key)) h in
+      let hold = holds_does config key move w (subst (IsKept config) (sym same) (h.books key)) h in
       let due_now : copies_of m v.hub ≡ copies = copies_alike m v.hub w.hub (does_alike key move w).1 (λ c. up_does c key move w) in
       let r = room_does copies key move w same (due_room key (happens.Handed m ∷ []) copies w h (append-nil copies) e) in
-      let s = share_goes (acts.Took key m) m v (took_idle key m) hold (subst (λ (c : List (ℕ × Message)). Room capacity drop c v.hub.sessions) (sym due_now) r) in
+      let s = share_goes (acts.Took key m) m v (took_idle key m) hold (subst (λ (c : List (ℕ × Message)). Room config c v.hub.sessions) (sym due_now) r) in
       let x = deliver (acts.Took key m) m v in
       go_on v x x (in_share (acts.Took key m) m v) [] s (quiet x x (λ c. refl) s.kept)
 
@@ -380,29 +384,29 @@ module _ (capacity : ℕ) (drop : Bool) (ids : IdentifierLaws) (next : NextLaws)
       let v = does key move w in
       let old = retained_copies key rs w.hub.retained in
       let copies = retained_copies key rs v.hub.retained in
-      let hold = holds_does capacity drop key move w (subst (IsSound capacity) (sym same) (h.books key)) h in
+      let hold = holds_does config key move w (subst (IsKept config) (sym same) (h.books key)) h in
       let stands : has key v.hub.sessions ≡ true = ap (has key) (does_alike key move w).0 ∙ has_with key (move (end_of key w.hub.sessions)).end key w.hub.sessions ∙ there in
       let now : copies ≡ old = ap (retained_copies key rs) (does_alike key move w).3 in
       let first = room_does old key move w same (due_room key (happens.Subscribe i rs ∷ []) old w h (append-nil old) e) in
       let u = subscribed key rs v in
       let kept = subscribed_kept key rs v stands hold in
-      let r = subst (λ (ss : List HubSession). Room capacity drop copies ss) (sym (subscribed_sessions key rs v)) (subst (λ (c : List (ℕ × Message)). Room capacity drop c v.hub.sessions) (sym now) first) in
+      let r = subst (λ (ss : List HubSession). Room config copies ss) (sym (subscribed_sessions key rs v)) (subst (λ (c : List (ℕ × Message)). Room config c v.hub.sessions) (sym now) first) in
       let answer = subacks i (granted rs) in
       let x = does key answer u in
       let stays : has key x.hub.sessions ≡ true = ap (has key) (does_alike key answer u).0 ∙ has_with key (answer (end_of key u.hub.sessions)).end key u.hub.sessions ∙ ap (has key) (subscribed_sessions key rs v) ∙ stands in
-      let a = accepting capacity drop ids next small copies x (holds_does capacity drop key answer u (kept.books key) kept) (retained_stand (Stands x.hub.sessions) key rs v.hub.retained stays) (room_does copies key answer u refl r) in
+      let a = accepting config ids next small copies x (holds_does config key answer u (kept.books key) kept) (retained_stand (Stands x.hub.sessions) key rs v.hub.retained stays) (room_does copies key answer u refl r) in
       let y = place_all copies x in
       let asks : Goes v (placings copies x) y = after_quiet v x y (placings copies x) (λ c. same_still u.did x.did (does_did key answer u) c ∙ subscribed_still key rs v c)
       (record { accepts = a.0; kept = a.1; whole = a.2; places = placings_place copies x }) in
       go_on v y y (placings copies x) [] asks (quiet y y (λ c. refl) a.1)
 
-  told_goes : (k : Conn) (key : ℕ) (move : End → Reply) (w : Work) → Tells (end_of key w.hub.sessions) (move (end_of key w.hub.sessions)) → IsSound capacity (move (end_of key w.hub.sessions)).end.book → Kept w
+  told_goes : (k : Conn) (key : ℕ) (move : End → Reply) (w : Work) → Tells (end_of key w.hub.sessions) (move (end_of key w.hub.sessions)) → IsKept config (move (end_of key w.hub.sessions)).end.book → Kept w
       → have_room (due key w.hub (move (end_of key w.hub.sessions)).happenings) w.hub ≡ true
       → Goes (does key move w) (in_answers k key (move (end_of key w.hub.sessions)).happenings (does key move w)) (answers_all k key (move (end_of key w.hub.sessions)).happenings (does key move w))
   told_goes k key move w (Quietly q) new h e =
       let v = does key move w in
       let all = (move (end_of key w.hub.sessions)).happenings in
-      subst (λ (ps : List Placing). Goes v ps (answers_all k key all v)) (sym (none_in k key all v q)) (quiet_all k key all v q (holds_does capacity drop key move w new h))
+      subst (λ (ps : List Placing). Goes v ps (answers_all k key all v)) (sym (none_in k key all v q)) (quiet_all k key all v q (holds_does config key move w new h))
   told_goes k key move w (Hands m is same) new h e =
       subst (λ (all : List Happening). have_room (due key w.hub all) w.hub ≡ true → Goes (does key move w) (in_answers k key all (does key move w)) (answers_all k key all (does key move w))) (sym is)
       (handed_goes k key m move w same h) e
@@ -426,9 +430,8 @@ module _ (capacity : ℕ) (drop : Bool) (ids : IdentifierLaws) (next : NextLaws)
   unfolding remove
   remove_kept key w h = record {
     is = h.is;
-    policy = h.policy;
-    books = λ c. subst (λ (e : End). IsSound capacity e.book) (sym (end_without key c w.hub.sessions))
-        (cond_both (eqb key c) no_end (end_of c w.hub.sessions) (λ e. IsSound capacity e.book) (λ t. ids.at_first capacity) (λ t. h.books c));
+    books = λ c. subst (λ (e : End). IsKept config e.book) (sym (end_without key c w.hub.sessions))
+        (cond_both (eqb key c) no_end (end_of c w.hub.sessions) (λ e. IsKept config e.book) (λ t. blank_kept config ids) (λ t. h.books c));
     rows = rowed_without key w.hub.rows w.hub.sessions h.rows;
   }
 
@@ -436,16 +439,41 @@ module _ (capacity : ℕ) (drop : Bool) (ids : IdentifierLaws) (next : NextLaws)
   remove_if_kept true key w h = remove_kept key w h
   remove_if_kept false key w h = h
 
+  remove_all_kept : (keys : List ℕ) (w : Work) → Kept w → Kept (remove_all keys w)
+  remove_all_kept [] w h = h
+  remove_all_kept (key ∷ keys) w h = remove_all_kept keys (remove key w) (remove_kept key w h)
+
+  -- a session stores the time of a disconnect
+  marks_kept : (key : Option ℕ) (now : ℕ) (w : Work) → Kept w → Kept (with_sessions (with_left key now) w)
+  marks_kept key now w h = record {
+    is = h.is;
+    books = λ c. subst (λ (e : End). IsKept config e.book) (sym (end_left key now c w.hub.sessions)) (h.books c);
+    rows = each_weaker (λ (r : Row). Stands w.hub.sessions r.0.0) (λ (r : Row). Stands (with_left key now w.hub.sessions) r.0.0)
+        (λ r there. has_left key now r.0.0 w.hub.sessions ∙ there) w.hub.rows h.rows;
+  }
+
   over_kept : (k : Conn) (why : HubClose) (key : ℕ) (terms : ConnectionTerms) (w : Work) → Kept w → Kept (when_over k why key terms w)
   over_kept k why key terms w h =
       let v = said (acts.Closed k why) (shut k w) in
       remove_if_kept terms.clean_session key (with_sessions (with_end key (over (end_of key w.hub.sessions))) v)
-      (holds_with capacity drop key (over (end_of key w.hub.sessions)) v (sound.drop capacity (end_of key w.hub.sessions) (h.books key)) (record { is = h.is; policy = h.policy; books = h.books; rows = h.rows }))
+      (holds_with config key (over (end_of key w.hub.sessions)) v (dropped_kept config sound (end_of key w.hub.sessions) (h.books key)) (record { is = h.is; books = h.books; rows = h.rows }))
 
   remove_if_still : (b : Bool) (key : ℕ) (w : Work) → Still w.did (remove_if b key w).did
   unfolding remove
   remove_if_still true key w = still_more (acts.Removed key) (removed_idle key) w.did
   remove_if_still false key w = λ c. refl
+
+  remove_all_still : (keys : List ℕ) (w : Work) → Still w.did (remove_all keys w).did
+  remove_all_still [] w = λ c. refl
+  remove_all_still (key ∷ keys) w = λ c. remove_all_still keys (remove key w) c ∙ remove_if_still true key w c
+
+  expire_still : (h : HubState) → Still [] (expire h).did
+  unfolding expire
+  expire_still h = remove_all_still (expired_keys h) (begin h)
+
+  expire_kept : (h : HubState) → Kept (begin h) → Kept (expire h)
+  unfolding expire
+  expire_kept h start = remove_all_kept (expired_keys h) (begin h) start
 
   over_still : (k : Conn) (why : HubClose) (key : ℕ) (terms : ConnectionTerms) (w : Work) → Still w.did (when_over k why key terms w).did
   over_still k why key terms w c =
@@ -464,24 +492,31 @@ module _ (capacity : ℕ) (drop : Bool) (ids : IdentifierLaws) (next : NextLaws)
       enough = have_room (copies_of (will_message will) w.hub) w.hub
 
       go : (b : Bool) → (fits && enough) ≡ b → Goes w (cond b (in_share (acts.Will key m) m w) []) (cond b (deliver (acts.Will key m) m w) (said (acts.WillDropped key) w))
-      go true e = share_goes (acts.Will key m) m w (will_idle key m) h (room capacity drop (copies_of m w.hub) w.hub h (and_both fits enough e).1)
-      go false e = quiet w (said (acts.WillDropped key) w) (still_more (acts.WillDropped key) (dropped_idle key) w.did) (record { is = h.is; policy = h.policy; books = h.books; rows = h.rows })
+      go true e = share_goes (acts.Will key m) m w (will_idle key m) h (room config (copies_of m w.hub) w.hub h (and_both fits enough e).1)
+      go false e = quiet w (said (acts.WillDropped key) w) (still_more (acts.WillDropped key) (dropped_idle key) w.did) (record { is = h.is; books = h.books; rows = h.rows })
 
   leaving_goes : (k : Conn) (why : HubClose) (fits : Bool) (s : ConnectionState) (w : Work) → Kept w → Goes w (in_leaving k why fits s w) (leaves_behind why fits s (said (acts.Closed k why) (shut k w)))
   unfolding leaves_behind
-  leaving_goes k why fits AwaitingConnect w h = quiet w (said (acts.Closed k why) (shut k w)) (still_more (acts.Closed k why) (closed_idle k why) w.did) (record { is = h.is; policy = h.policy; books = h.books; rows = h.rows })
+  leaving_goes k why fits AwaitingConnect w h = quiet w (said (acts.Closed k why) (shut k w)) (still_more (acts.Closed k why) (closed_idle k why) w.did) (record { is = h.is; books = h.books; rows = h.rows })
   leaving_goes k why fits (ConnectedAs key terms last_activity) w h =
       let v = when_over k why key terms w in
       let will = will_after why terms.will in
       after_quiet w v (last_will key will fits v) (in_will key will fits v) (over_still k why key terms w) (will_goes key will fits v (over_kept k why key terms w h))
-  leaving_goes k why fits Closed w h = quiet w (said (acts.Closed k why) (shut k w)) (still_more (acts.Closed k why) (closed_idle k why) w.did) (record { is = h.is; policy = h.policy; books = h.books; rows = h.rows })
+  leaving_goes k why fits Closed w h = quiet w (said (acts.Closed k why) (shut k w)) (still_more (acts.Closed k why) (closed_idle k why) w.did) (record { is = h.is; books = h.books; rows = h.rows })
 
   close_goes : (k : Conn) (why : HubClose) (fits : Bool) (w : Work) → Kept w → Goes w (in_close k why fits w) (close k why fits w)
-  unfolding close
-  close_goes k why fits w h = leaving_goes k why fits (stage_of k w.hub.connections) w h
+  unfolding close shut_down
+  close_goes k why fits w h =
+      let g = leaving_goes k why fits (stage_of k w.hub.connections) w h in
+      record {
+        accepts = g.accepts;
+        kept = marks_kept (key_on (stage_of k w.hub.connections)) w.hub.clock (shut_down k why fits w) g.kept;
+        whole = g.whole;
+        places = g.places;
+      }
 
   put_kept : (k : Conn) (ps : List Packet) (w : Work) → Kept w → Kept (put_on k ps w)
-  put_kept k ps w h = holds_alike capacity drop (put_on k ps w).hub w.hub (put_alike k ps w) h
+  put_kept k ps w h = holds_alike config (put_on k ps w).hub w.hub (put_alike k ps w) h
 
   -- packets are queued, and then a connection is closed
   put_close : (k : Conn) (ps : List Packet) (why : HubClose) (fits : Bool) (w : Work) → Kept w → Goes w (in_close k why fits (put_on k ps w)) (close k why fits (put_on k ps w))
@@ -504,7 +539,7 @@ module _ (capacity : ℕ) (drop : Bool) (ids : IdentifierLaws) (next : NextLaws)
           let told = (server_gets p e).happenings in
           let v = does key (server_gets p) w in
           after_quiet w v (answers_all k key told v) (in_answers k key told v) (same_still w.did v.did (does_did key (server_gets p) w))
-          (told_goes k key (server_gets p) w (gets_tells p e) (sound.server capacity p e (h.books key)) h enough)
+          (told_goes k key (server_gets p) w (gets_tells p e) (gets_kept config sound p e (h.books key)) h enough)
       go false short = close_goes k TargetFull fits w h
 
   -- ---- CONNECT
@@ -517,19 +552,18 @@ module _ (capacity : ℕ) (drop : Bool) (ids : IdentifierLaws) (next : NextLaws)
       let x = does key (greeting c) v in
       after_quiet w x (answers_all k key (greeting c e).happenings x) [] (same_still v.did x.did (does_did key (greeting c) v))
       (quiet_all k key (greeting c e).happenings x (greeting_quiet c e)
-      (holds_does capacity drop key (greeting c) v (sound.server capacity (packets.Connect c) (opens e).end (sound.opened capacity e (h.books key))) (record { is = h.is; policy = h.policy; books = h.books; rows = h.rows })))
+      (holds_does config key (greeting c) v (gets_kept config sound (packets.Connect c) (opens e).end (opened_kept config sound e (h.books key))) (record { is = h.is; books = h.books; rows = h.rows })))
 
   new_kept : (client : List ℕ) (w : Work) → Kept w → Kept (new_session client w)
   unfolding new_session
   new_kept client w h =
       let n = w.hub.next_key in
-      let s : HubSession = record { client = client; key = n; end = new_end w.hub.config } in
+      let s : HubSession = record { client = client; key = n; end = new_end w.hub.config; left = w.hub.clock } in
       record {
         is = h.is;
-        policy = h.policy;
-        books = λ c. subst (λ (e : End). IsSound capacity e.book) (sym (end_new s c w.hub.sessions))
-            (cond_both (has c w.hub.sessions) (end_of c w.hub.sessions) (cond (eqb n c) (new_end w.hub.config) no_end) (λ e. IsSound capacity e.book) (λ t. h.books c)
-            (λ t. cond_both (eqb n c) (new_end w.hub.config) no_end (λ e. IsSound capacity e.book) (λ t. ids.at_first capacity) (λ t. ids.at_first capacity)));
+        books = λ c. subst (λ (e : End). IsKept config e.book) (sym (end_new s c w.hub.sessions))
+            (cond_both (has c w.hub.sessions) (end_of c w.hub.sessions) (cond (eqb n c) (new_end w.hub.config) no_end) (λ e. IsKept config e.book) (λ t. h.books c)
+            (λ t. cond_both (eqb n c) (new_end w.hub.config) no_end (λ e. IsKept config e.book) (λ t. blank_kept config ids) (λ t. blank_kept config ids)));
         rows = each_weaker (λ (r : Row). Stands w.hub.sessions r.0.0) (λ (r : Row). Stands (w.hub.sessions ++ s ∷ []) r.0.0)
             (λ r there. has_new s r.0.0 w.hub.sessions ∙ cond-true (has r.0.0 w.hub.sessions) true (eqb n r.0.0) there) w.hub.rows h.rows;
       }
@@ -590,7 +624,7 @@ module _ (capacity : ℕ) (drop : Bool) (ids : IdentifierLaws) (next : NextLaws)
           (cond b (dispatch_packet k p g.will_fits (stage_of k w.hub.connections) (touched_on k w)) (close k (Own reasons.Memory) g.will_fits w))
       go true =
           let touched = touched_on k w in
-          let a = packet_goes k p g.will_fits (stage_of k w.hub.connections) touched (record { is = h.is; policy = h.policy; books = h.books; rows = h.rows }) in
+          let a = packet_goes k p g.will_fits (stage_of k w.hub.connections) touched (record { is = h.is; books = h.books; rows = h.rows }) in
           record { accepts = a.accepts; kept = a.kept; whole = a.whole; places = a.places }
       go false = close_goes k (Own reasons.Memory) g.will_fits w h
 
@@ -598,7 +632,7 @@ module _ (capacity : ℕ) (drop : Bool) (ids : IdentifierLaws) (next : NextLaws)
   unfolding takes
   takes_goes k p g w h =
       let a = arrives_goes k p g w h in
-      record { accepts = a.accepts; kept = record { is = a.kept.is; policy = a.kept.policy; books = a.kept.books; rows = a.kept.rows }; whole = a.whole; places = a.places }
+      record { accepts = a.accepts; kept = record { is = a.kept.is; books = a.kept.books; rows = a.kept.rows }; whole = a.whole; places = a.places }
 
   breaks_go : (k : Conn) (fault : DecodeFault) (fits : Bool) (w : Work) → Kept w → Goes w (in_breaks k (broken k fault w).close fits (put_on k (broken k fault w).out w)) (on_malformed k fault fits w)
   unfolding on_malformed
@@ -614,7 +648,7 @@ module _ (capacity : ℕ) (drop : Bool) (ids : IdentifierLaws) (next : NextLaws)
   comes_go limits k b w w2 (Arrives p first rest g v v2 on reads more) h =
       let t = takes_goes k p g v h in
       go_on v (takes k p g v) v2 (in_takes k p g v) (in_comes limits k rest (takes k p g v) v2 more) t (comes_go limits k rest (takes k p g v) v2 more t.kept)
-  comes_go limits k b w w2 (Waits c v on pending) h = quiet v (holding k c v) (λ c. refl) (record { is = h.is; policy = h.policy; books = h.books; rows = h.rows })
+  comes_go limits k b w w2 (Waits c v on pending) h = quiet v (holding k c v) (λ c. refl) (record { is = h.is; books = h.books; rows = h.rows })
   comes_go limits k b w w2 (Breaks c fault fits v on faulty) h = breaks_go k fault fits v h
   comes_go limits k b w w2 (Starves c fits v on some) h = close_goes k (Own reasons.Memory) fits v h
   comes_go limits k b w w2 (LetsGo c v closed) h = quiet v v (λ c. refl) h
@@ -631,40 +665,44 @@ module _ (capacity : ℕ) (drop : Bool) (ids : IdentifierLaws) (next : NextLaws)
   ended_goes k true fits w h = close_goes k PeerEnded fits w h
   ended_goes k false fits w h = quiet w w (λ c. refl) h
 
-  event_goes : (h : HubState) (e : HubEvent) (r : HubReply) (w : Work) (d : Does h e r w) → Holds capacity drop h → Goes (begin h) (in_step h e r w d) w
-  event_goes h (Opened k) r w d s = quiet (begin h) w (same_still [] w.did (ap (λ (w : Work). w.did) d.0)) (subst Kept (sym d.0) (record { is = s.is; policy = s.policy; books = s.books; rows = s.rows }))
+  event_goes : (h : HubState) (e : HubEvent) (r : HubReply) (w : Work) (d : Does h e r w) → Holds config h → Goes (begin h) (in_step h e r w d) w
+  event_goes h (Opened k) r w d s = quiet (begin h) w (same_still [] w.did (ap (λ (w : Work). w.did) d.0)) (subst Kept (sym d.0) (record { is = s.is; books = s.books; rows = s.rows }))
   event_goes h (Bytes k piece) r w d s =
       let v = holding k [] (begin h) in
       let b = held_on k h.connections ++ piece in
-      after_quiet (begin h) v w (in_comes h.config.limits k b v w d.0) (λ c. refl) (comes_go h.config.limits k b v w d.0 (record { is = s.is; policy = s.policy; books = s.books; rows = s.rows }))
+      after_quiet (begin h) v w (in_comes h.config.limits k b v w d.0) (λ c. refl) (comes_go h.config.limits k b v w d.0 (record { is = s.is; books = s.books; rows = s.rows }))
   event_goes h (Ended k) r w d s =
       let alive = is_open (stage_of k h.connections) in
       let over = ended_goes k alive d.0 (begin h) s in
       subst (Goes (begin h) (cond alive (in_close k PeerEnded d.0 (begin h)) [])) (sym d.1)
-      (record { accepts = over.accepts; kept = record { is = over.kept.is; policy = over.kept.policy; books = over.kept.books; rows = over.kept.rows }; whole = over.whole; places = over.places })
+      (record { accepts = over.accepts; kept = record { is = over.kept.is; books = over.kept.books; rows = over.kept.rows }; whole = over.whole; places = over.places })
   event_goes h (Tick now) r w d s =
-      let v = begin (told now h) in
-      after_quiet (begin h) v w (in_ticks h.config.connect_within (max h.clock now) h.connections v w d.0) (λ c. refl) (ticks_go h.config.connect_within (max h.clock now) h.connections v w d.0 (record { is = s.is; policy = s.policy; books = s.books; rows = s.rows }))
-  event_goes h (Collect k) r w d s = quiet (begin h) w (same_still [] w.did (ap (λ (w : Work). w.did) d.0)) (subst Kept (sym d.0) (record { is = s.is; policy = s.policy; books = s.books; rows = s.rows }))
+      let v = expire (told now h) in
+      after_quiet (begin h) v w (in_ticks h.config.connect_within (max h.clock now) h.connections v w d.0) (expire_still (told now h))
+      (ticks_go h.config.connect_within (max h.clock now) h.connections v w d.0 (expire_kept (told now h) (record { is = s.is; books = s.books; rows = s.rows })))
+  event_goes h (Collect k) r w d s = quiet (begin h) w (same_still [] w.did (ap (λ (w : Work). w.did) d.0)) (subst Kept (sym d.0) (record { is = s.is; books = s.books; rows = s.rows }))
 
-  run_kept : (es : List Episode) (h h2 : HubState) → Follows h es h2 → Holds capacity drop h → Holds capacity drop h2
-  run_kept [] h h2 f s = subst (Holds capacity drop) (sym f) s
+  run_kept : (es : List Episode) (h h2 : HubState) → Follows h es h2 → Holds config h → Holds config h2
+  run_kept [] h h2 f s = subst (Holds config) (sym f) s
   run_kept (e ∷ es) h h2 f s = run_kept es e.work.hub h2 f.2 (event_goes h e.event e.reply e.work f.1 s).kept
 
-new_holds : (config : HubConfig) → IdentifierLaws → Holds config.capacity (drops_copies config.when_full) (new_hub config)
-new_holds config ids = record { is = refl; policy = refl; books = λ c. ids.at_first config.capacity; rows = tt }
+new_holds : (config : HubConfig) → IdentifierLaws → Holds config (new_hub config)
+new_holds config ids = record { is = refl; books = λ c. blank_kept config ids; rows = tt }
 
 module _ (ids : IdentifierLaws) (next : NextLaws) (sound : SoundLaws) (config : HubConfig) (small : config.capacity ≤ 65535) where
-  last_activity : (es : List Episode) (h : HubState) → Follows (new_hub config) es h → Holds config.capacity (drops_copies config.when_full) h
-  last_activity es h f = run_kept config.capacity (drops_copies config.when_full) ids next sound small es (new_hub config) h f (new_holds config ids)
+  last_activity : (es : List Episode) (h : HubState) → Follows (new_hub config) es h → Holds config h
+  last_activity es h f = run_kept config ids next sound small es (new_hub config) h f (new_holds config ids)
 
-  step : (before : List Episode) (h : HubState) → Follows (new_hub config) before h → (e : HubEvent) (r : HubReply) (w : Work) (d : Does h e r w) → Goes config.capacity (drops_copies config.when_full) ids next sound small (begin h) (in_step h e r w d) w
-  step before h f e r w d = event_goes config.capacity (drops_copies config.when_full) ids next sound small h e r w d (last_activity before h f)
+  step : (before : List Episode) (h : HubState) → Follows (new_hub config) before h → (e : HubEvent) (r : HubReply) (w : Work) (d : Does h e r w) → Goes config ids next sound small (begin h) (in_step h e r w d) w
+  step before h f e r w d = event_goes config ids next sound small h e r w d (last_activity before h f)
 
 pub laws : IdentifierLaws → NextLaws → SoundLaws → AcceptLaws
 laws ids next sound = record {
-  books = λ config small es h f key. (last_activity ids next sound config small es h f).books key;
+  books = λ config small es h f key. ((last_activity ids next sound config small es h f).books key).sound;
   accepts = λ config small before h f e r w right d. (step ids next sound config small before h f e r w d).accepts;
-  none_missed = λ config closes small before h f e r w right d. (step ids next sound config small before h f e r w d).whole (ap drops_copies closes);
+  none_missed = λ config closes small before h f e r w right d. (step ids next sound config small before h f e r w d).whole.0 (ap drops_copies closes);
+  none_cut = λ config unlimited small before h f e r w right d. (step ids next sound config small before h f e r w d).whole.1 unlimited;
+  stored = λ config most is small es h f key.
+      subst (λ (o : Option ℕ). IsStored o (end_of key h.sessions).book) is ((last_activity ids next sound config small es h f).books key).stored;
   marked_are = λ config small before h f e r w right d c. ap (marked c) (acts_are h e r w d) ∙ (step ids next sound config small before h f e r w d).places c;
 }

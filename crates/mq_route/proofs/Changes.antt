@@ -20,14 +20,14 @@ use Rattle.mq_route.specs.declared.connection_state.ConnectionState.TheVariants.
 use Rattle.mq_route.specs.declared.connection_state.ConnectionTerms.{ConnectionTerms}
 use Rattle.mq_route.specs.Routed.{same_conn}
 use Rattle.mq_route.specs.Copies.{kept, retained_for, will_message}
-use Rattle.mq_route.specs.Hub.{HubState, HubSession, HubConnection, no_end, new_end, end_of, with_end, changed, with_connection, without_session, is_for, for_key, knows, stage_of, up_on, copies_of}
-use Rattle.mq_route.specs.Work.{Work, said, with_connections, with_sessions, staged, shut, put_on, put_where, does, is_missed, have_room, remove, remove_if, will_after}
+use Rattle.mq_route.specs.Hub.{HubState, HubSession, HubConnection, no_end, new_end, end_of, with_end, with_left, changed, with_connection, without_session, is_for, for_key, knows, stage_of, up_on, copies_of}
+use Rattle.mq_route.specs.Work.{Work, said, with_connections, with_sessions, staged, shut, put_on, put_where, does, publishes_next, lacks_output, is_missed, have_room, remove, remove_if, will_after}
 use Rattle.mq_route.specs.Arrives.{new_session, touched_on}
 use Rattle.mq_route.specs.Dropped.{when_over}
 use Rattle.mq_route.proofs.Lines.{Mild, Names, Ups, upper, names_changed, ups_changed, upper_map, up_map, grown, same_conn-itself}
 use Rattle.mq_route.proofs.Uppers.{Apart, IsIdle, apart_map, unless, upper_closed, apart_closed, upper_at, unless_other, upper_risen, apart_risen}
-use Rattle.mq_route.proofs.Sessions.{has, has_with, has_without, has_new, each_there, each_with, each_without, each_new}
-use Rattle.mq_route.proofs.Ends.{Alike, GoesOn, takings}
+use Rattle.mq_route.proofs.Sessions.{has, has_left, has_with, has_without, each_left, has_new, each_there, each_with, each_without, each_new}
+use Rattle.mq_route.proofs.Ends.{Alike, AreAnswers, GoesOn, takings}
 
 -- ---- open obligations in a step
 
@@ -64,6 +64,12 @@ closing k why key terms w = when_over k why key terms w
 abbrev pub rising : Conn → ℕ → ConnectionTerms → ℕ → (End → Reply) → Bool → Work → Work
 rising k key terms last_activity move present w = said (acts.Up k key present) (does key move (staged k (ConnectedAs key terms last_activity) w))
 
+-- the packets of a copy that is placed; with QoS 0, there is room for it in the pending output
+pub record IsCopy (key : ℕ) (m : Message) (ps : List Packet) (w : Work) : Type 0 where
+  pub end : End
+  pub is : ps ≡ (publishes_next m end).out
+  pub sent : lacks_output key m w.hub ≡ false
+
 -- no restriction on the connections of packets
 abbrev pub Everywhere : Conn → Type 0
 Everywhere k = Unit {0}
@@ -71,12 +77,13 @@ Everywhere k = Unit {0}
 -- The changes when copies are placed and subscriptions change. `IsOwn` restricts the connections on
 -- which packets are sent that are no copies.
 pub record Inner (IsOwn : Conn → Type 0) (R : Debt → Work → Type 0) : Type 0 where
-  pub put : (k : Conn) (ps : List Packet) (o : Debt) (w : Work) → IsOwn k → R o w → R o (put_on k ps w)
+  pub put : (k : Conn) (ps : List Packet) (o : Debt) (w : Work) → IsOwn k → AreAnswers ps → R o w → R o (put_on k ps w)
   pub moves : (key : ℕ) (e : End) (o : Debt) (w : Work) → Alike e (end_of key w.hub.sessions) → R o w → R o (with_sessions (with_end key e) w)
+  pub marks : (key : Option ℕ) (now : ℕ) (o : Debt) (w : Work) → R o w → R o (with_sessions (with_left key now) w)
   pub took : (key : ℕ) (m : Message) (t : List (ℕ × Message)) (n : List (ℕ × Packet)) (w : Work) → R (owes [] ((key, m) ∷ t) n) w → R (owes (copies_of m w.hub) t n) (retaining (acts.Took key m) m w)
   pub willed : (key : ℕ) (m : Message) (w : Work) → R nothing w → R (owes (copies_of m w.hub) [] []) (retaining (acts.Will key m) m w)
   pub placed : (key : ℕ) (m : Message) (ps : List Packet) (c t : List (ℕ × Message)) (n : List (ℕ × Packet)) (w : Work)
-      → R (owes ((key, m) ∷ c) t n) w → R (owes c t n) (said (acts.Placed key m) (put_where (up_on key w.hub.connections) ps w))
+      → IsCopy key m ps w → R (owes ((key, m) ∷ c) t n) w → R (owes c t n) (said (acts.Placed key m) (put_where (up_on key w.hub.connections) ps w))
   pub missed : (key : ℕ) (m : Message) (c t : List (ℕ × Message)) (n : List (ℕ × Packet)) (w : Work)
       → is_missed key m w.hub ≡ true → R (owes ((key, m) ∷ c) t n) w → R (owes c t n) (said (acts.Missed key m) w)
   pub subscribed : (key : ℕ) (f : List ℕ) (q : Qos) (c t : List (ℕ × Message)) (n : List (ℕ × Packet)) (w : Work)
@@ -126,7 +133,7 @@ pub record Outer (IsOwn : Conn → Type 0) (R : Debt → Work → Type 0) (May :
   pub removes : (key : ℕ) (w : Work) → Sound w.hub → upper key w.hub.connections ≡ None → R nothing w → R nothing (remove key w)
   pub begins : (client : List ℕ) (w : Work) → Sound w.hub → R nothing w → R nothing (new_session client w)
   pub rises : (k : Conn) (key : ℕ) (terms : ConnectionTerms) (last_activity : ℕ) (move : End → Reply) (present : Bool) (w : Work) → IsOwn k → Sound w.hub → knows k w.hub.connections ≡ true → stage_of k w.hub.connections ≡ AwaitingConnect
-      → upper key w.hub.connections ≡ None → has key w.hub.sessions ≡ true → (move (end_of key w.hub.sessions)).end.state ≡ Connected → (move (end_of key w.hub.sessions)).end.clean ≡ terms.clean_session → (move (end_of key w.hub.sessions)).end.received ≡ (end_of key w.hub.sessions).received
+      → upper key w.hub.connections ≡ None → has key w.hub.sessions ≡ true → (move (end_of key w.hub.sessions)).end.state ≡ Connected → (move (end_of key w.hub.sessions)).end.clean ≡ terms.clean_session → (move (end_of key w.hub.sessions)).end.received ≡ (end_of key w.hub.sessions).received → AreAnswers (move (end_of key w.hub.sessions)).out
       → R nothing w → R nothing (rising k key terms last_activity move present w)
 
 -- Each reason but a full session may close a connection.
@@ -188,6 +195,13 @@ ended_as key e xs n ss new s = record {
   tied = each_with (λ c there e. Tied (upper c xs) there e) key e ss s.tied new;
 }
 
+left_as : (key : Option ℕ) (now : ℕ) (xs : List HubConnection) (n : ℕ) (ss : List HubSession) → Orderly xs n ss → Orderly xs n (with_left key now ss)
+left_as key now xs n ss s = record {
+  apart = s.apart;
+  keyless = λ c le. has_left key now c ss ∙ s.keyless c le;
+  tied = each_left (λ c there e. Tied (upper c xs) there e) key now ss s.tied;
+}
+
 alike_tied : (o : Option (Conn × Bool)) (there : Bool) (e f : End) → Alike e f → there ≡ true → Tied o there f → Tied o true e
 alike_tied None there e f a h t = a.1 ∙ t
 alike_tied (Some u) there e f a h t = (refl, a.0 ∙ t.1, a.1 ∙ t.2)
@@ -219,12 +233,13 @@ sound_put_where (Some k) ps w s = sound_put k ps w s
 
 pub sound_inner : (IsOwn : Conn → Type 0) → Inner IsOwn (λ o w. Sound w.hub)
 sound_inner IsOwn = record {
-  put = λ k ps o w own s. sound_put k ps w s;
+  put = λ k ps o w own plain s. sound_put k ps w s;
   moves = λ key e o w alike s. ended_as key e w.hub.connections w.hub.next_key w.hub.sessions
       (λ there. alike_tied (upper key w.hub.connections) (has key w.hub.sessions) e (end_of key w.hub.sessions) alike there (s.tied key)) s;
+  marks = λ key now o w s. left_as key now w.hub.connections w.hub.next_key w.hub.sessions s;
   took = λ key m t n w s. s;
   willed = λ key m w s. s;
-  placed = λ key m ps c t n w s. sound_put_where (up_on key w.hub.connections) ps w s;
+  placed = λ key m ps c t n w copy s. sound_put_where (up_on key w.hub.connections) ps w s;
   missed = λ key m c t n w is s. s;
   subscribed = λ key f q c t n w s. s;
   unsubscribed = λ key f o w s. s;
@@ -320,7 +335,7 @@ pub sound_begins : (client : List ℕ) (w : Work) → Sound w.hub → Sound (new
 unfolding new_session
 sound_begins client w s =
     let n = w.hub.next_key in
-    let session : HubSession = record { client = client; key = n; end = new_end w.hub.config } in
+    let session : HubSession = record { client = client; key = n; end = new_end w.hub.config; left = w.hub.clock } in
     let none = not_up n w.hub s (s.keyless n (le_refl n)) in
     record {
       apart = s.apart;

@@ -1,6 +1,7 @@
 -- The moves of a session's end at a packet, as far as the broker depends on them.
-use Rattle.std.proofs.Common.{◌≡◌, ℕ, Bool, true, false, not, ◌&&◌, cond, List, [], ◌∷◌, ◌++◌, length, Option, Some, None, refl, sym, subst, ◌∙◌, eqb}
-use Rattle.std.proofs.lemmas.Bool.{cond-false}
+use Rattle.std.proofs.Common.{◌≡◌, ℕ, Bool, true, false, not, ◌&&◌, cond, List, [], ◌∷◌, ◌++◌, length, map, Option, Some, None, refl, sym, subst, ◌∙◌, eqb}
+use Rattle.std.proofs.lemmas.Bool.{cond-false, cond_both}
+use Rattle.std.specs.List.{list_all}
 use Rattle.mq_topic.specs.declared.qos.Qos.{Qos}
 use Rattle.mq_topic.specs.declared.qos.Qos.TheVariants.{Q0, Q1, Q2}
 use Rattle.mq_packet.specs.declared.connack.ConnAck.TheVariants as connacks
@@ -10,20 +11,25 @@ use Rattle.mq_packet.specs.declared.message.Message.{Message}
 use Rattle.mq_packet.specs.declared.packet.Packet.{Packet}
 use Rattle.mq_packet.specs.declared.packet.Packet.TheVariants as packets
 use Rattle.mq_packet.specs.declared.publish.Delivery.{Delivery}
+use Rattle.mq_decode.specs.declared.fault.DecodeFault.{DecodeFault}
+use Rattle.mq_flow.specs.declared.entry.Entry.{Entry}
 use Rattle.mq_flow.specs.Receiver.{is_new}
+use Rattle.mq_flow.specs.Sender.{is_awaited, publish_packet}
 use Rattle.mq_flow.specs.Window.{fits_window}
 use Rattle.mq_end.specs.declared.happening.Happening.{Happening}
 use Rattle.mq_end.specs.declared.happening.Happening.TheVariants as happens
 use Rattle.mq_end.specs.declared.reason.CloseReason.{CloseReason}
 use Rattle.mq_end.specs.declared.reason.CloseReason.TheVariants as reasons
 use Rattle.mq_end.specs.declared.state.State.{State}
-use Rattle.mq_end.specs.declared.state.State.TheVariants.{Connected}
-use Rattle.mq_end.specs.End.{End, Reply, closes, renewed, comes_up}
+use Rattle.mq_end.specs.declared.state.State.TheVariants.{Disconnected, Connecting, Connected}
+use Rattle.mq_end.specs.End.{End, Reply, closes, renewed, comes_up, is_up}
 use Rattle.mq_end.specs.Both as both
 use Rattle.mq_end.specs.Both.{publish_gets, flow_gets, publishes_at}
-use Rattle.mq_end.specs.Server.{opens, refuses, server_gets, server_gets_in, server_up_gets}
+use Rattle.mq_end.specs.Server.{opens, refuses, level_refused, connect_gets, server_open_gets, server_gets, server_gets_in, server_up_gets}
+use Rattle.mq_end.specs.State.{is_level, server_faulted}
 use Rattle.mq_route.specs.Hub.{for_key}
 use Rattle.mq_route.specs.Arrives.{greeting}
+use Rattle.mq_route.specs.Laws.{is_no_plain_publish}
 use Rattle.mq_route.specs.Taken.{hands, stores, handed_by, book_after}
 
 -- two ends agree except for their outgoing packets
@@ -33,6 +39,63 @@ Alike e f = (e.state ≡ f.state) × (e.clean ≡ f.clean) × (e.received ≡ f.
 pub publishes_alike : (q : Qos) (i : ℕ) (m : Message) (e : End) → Alike (publishes_at q i m e).end e
 publishes_alike Q0 i m e = (refl, refl, refl)
 publishes_alike q i m e = (refl, refl, refl)
+
+-- ---- packets that are no copies
+
+-- none of these packets is a PUBLISH of QoS 0
+abbrev pub AreAnswers : List Packet → Type 0
+AreAnswers ps = list_all is_no_plain_publish ps ≡ true
+
+released_answers : (ids : List ℕ) (ps : List Packet) → AreAnswers ps → AreAnswers (map packets.PubRel ids ++ ps)
+released_answers [] ps all = all
+released_answers (i ∷ ids) ps all = released_answers ids ps all
+
+entries_answers : (es : List Entry) → AreAnswers (map (λ e. publish_packet e.id e.sent e.message) es)
+entries_answers [] = refl
+entries_answers (e ∷ es) = entries_answers es
+
+publish_answers : (q : Qos) (d : Option Delivery) (m : Message) (e : End) → AreAnswers (publish_gets q d m e).out
+publish_answers Q0 None m e = refl
+publish_answers Q1 (Some d) m e = refl
+publish_answers Q2 (Some d) m e = cond_both (fits_window e.window d.id e.received) (both.stores d.id m e) (closes reasons.Window e) (λ r. AreAnswers r.out) (λ t. refl) (λ f. refl)
+publish_answers q d m e = refl
+
+flow_answers : (p : Packet) (e : End) → AreAnswers (flow_gets p e).out
+flow_answers (packets.Publish p) e = publish_answers p.message.qos p.delivery p.message e
+flow_answers (packets.PubRec i) e = cond_both (is_awaited Q2 i e.book.entries) (packets.PubRel i ∷ []) [] AreAnswers (λ t. refl) (λ f. refl)
+flow_answers p e = refl
+
+connect_answers : (c : Connect) (e : End) → AreAnswers (connect_gets c e).out
+connect_answers c e =
+    let present = not c.clean_session && e.known in
+    let f = record (renewed c.clean_session e) { keep_alive = c.keep_alive } in
+    cond_both (not c.clean_session && eqb (length c.client_id) 0) (refuses IdentifierRejected e) (comes_up (packets.ConnAck (connacks.Accepted present) ∷ []) present f)
+    (λ r. AreAnswers r.out) (λ t. refl) (λ t. released_answers f.book.released (map (λ e. publish_packet e.id e.sent e.message) f.book.entries) (entries_answers f.book.entries))
+
+open_answers : (p : Packet) (e : End) → AreAnswers (server_open_gets p e).out
+open_answers (packets.Connect c) e = connect_answers c e
+open_answers p e = refl
+
+up_answers : (p : Packet) (e : End) → AreAnswers (server_up_gets p e).out
+up_answers (packets.Subscribe i requests) e = refl
+up_answers (packets.Unsubscribe i filters) e = refl
+up_answers packets.PingReq e = refl
+up_answers packets.Disconnect e = refl
+up_answers p e = flow_answers p e
+
+in_answers : (st : State) (p : Packet) (e : End) → AreAnswers (server_gets_in st p e).out
+in_answers Disconnected p e = refl
+in_answers Connecting p e = open_answers p e
+in_answers Connected p e = up_answers p e
+
+-- a packet is answered by no PUBLISH of QoS 0
+pub gets_answers : (p : Packet) (e : End) → AreAnswers (server_gets p e).out
+gets_answers p e = in_answers e.state p e
+
+-- malformed bytes are answered by none either
+pub faulted_answers : (fault : DecodeFault) (e : End) → AreAnswers (server_faulted fault e).out
+faulted_answers fault e =
+    cond_both (not (is_up e.state) && is_level fault.kind) (level_refused e) (closes (reasons.Fault fault) e) (λ r. AreAnswers r.out) (λ t. refl) (λ f. refl)
 
 -- ---- reports
 

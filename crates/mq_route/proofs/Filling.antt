@@ -1,7 +1,8 @@
 -- A connection closes for a full session only at a packet that is too much.
-use Rattle.std.proofs.Common.{◌≡◌, ◌⊎◌, inl, inr, ℕ, ◌+◌, ◌<◌, Bool, true, false, ◌&&◌, cond, List, [], ◌∷◌, ◌++◌, ◌||◌, map, max, Option, Some, None, refl, sym, ap, ap₂, subst, subst₂, ◌∙◌, true≢false, append-nil, nat_le, ◌-◌, length, arith, le-leb, eqb}
+use Rattle.std.proofs.Common.{◌≡◌, ◌⊎◌, inl, inr, ℕ, ◌+◌, ◌<◌, Bool, true, false, ◌&&◌, cond, List, [], ◌∷◌, ◌++◌, ◌||◌, map, Option, Some, None, refl, sym, ap, ap₂, subst, subst₂, ◌∙◌, true≢false, append-nil, nat_le, ◌-◌, length, arith, le-leb, eqb}
 use Rattle.std.proofs.lemmas.Bool.{and_from, cond_both, leb-false}
 use Rattle.mq_flow.specs.Sender.{uses}
+use Rattle.mq_flow.specs.Stored.{message_bytes, stored_bytes}
 use Rattle.std.proofs.lemmas.List.Concat.{flat_map-append}
 use Rattle.std.proofs.lemmas.List.Sums.{sum_by-cons}
 use Rattle.std.specs.List.{list_all}
@@ -41,16 +42,16 @@ use Rattle.mq_route.specs.declared.connection_state.ConnectionTerms.{ConnectionT
 use Rattle.mq_route.specs.Copies.{retained_for}
 use Rattle.mq_route.specs.Routed.{Seen, seen, seen_after, routes, routed_from, copies_for}
 use Rattle.mq_route.specs.Hub.{HubState, HubSession, new_hub, stage_of, is_open, key_on, held_on, up_on, end_of, with_end, for_key}
-use Rattle.mq_route.specs.Work.{Work, begin, said, with_sessions, staged, shut, put_on, put_where, does, drops_copies, needs, all_fit, have_room, remove, remove_if, retained_copies, will_after, leaves_behind, close}
+use Rattle.mq_route.specs.Work.{Work, begin, said, with_sessions, staged, shut, put_on, put_where, does, drops_copies, leaves, needs, needed_bytes, fits_in, all_fit, have_room, remove, remove_if, retained_copies, will_after, leaves_behind, shut_down, close}
 use Rattle.mq_route.specs.Arrives.{Growth, due, due_by, new_session, touched, touched_on, answers_all, replies, dispatch_packet, arrives, takes}
 use Rattle.mq_route.specs.Step.{holding, Comes, Arrives, Waits, Breaks, Starves, LetsGo, Does, event_refusal, told}
 use Rattle.mq_route.specs.Runs.{Episode, Follows, acts_of}
 use Rattle.mq_route.specs.Laws.{for_client}
-use Rattle.mq_route.specs.Full.{if_full, full_by, full_closes, IsPublishOrSubscribe, asked_by, asked, identifiers_for, IsAmong, IsTooMuch, ComesTooMuch, IsFullEvent, FullLaws}
+use Rattle.mq_route.specs.Full.{if_full, full_by, full_closes, IsPublishOrSubscribe, asked_by, asked, identifiers_for, bytes_for, IsShortOf, IsAmong, IsTooMuch, ComesTooMuch, IsFullEvent, FullLaws}
 use Rattle.mq_route.proofs.Changes.{Anywhere, anywhere, Freely, freely, Debt, owes, nothing, Everywhere, Inner, sent_where, Outer, Ways, Sound, closing, rising, sound_put, sound_mild}
 use Rattle.mq_route.proofs.Walk.{last_will_keeps}
 use Rattle.mq_route.proofs.Frames.{closed_shut}
-use Rattle.mq_route.proofs.Steps.{heard_mild, stage_heard, takes_both, breaks_both, close_both, holding_both, ticks_both, ended_both}
+use Rattle.mq_route.proofs.Steps.{heard_mild, stage_heard, takes_both, breaks_both, close_both, holding_both, tick_both, ended_both}
 use Rattle.mq_route.proofs.Events.{sound_new}
 use Rattle.mq_route.proofs.Output.{sound_run}
 use Rattle.mq_route.proofs.Missing.{short_parts}
@@ -84,11 +85,12 @@ module _ (L : List Conn) (X : Type 0) where
   inner : Inner Everywhere Few
   unfolding full_by
   inner = record {
-    put = λ k ps o w own r. put_few k ps o w r;
+    put = λ k ps o w own plain r. put_few k ps o w r;
     moves = λ key e o w alike r. r;
+    marks = λ key now o w r. r;
     took = λ key m t n w r. few_more w.did (acts.Took key m) refl r;
     willed = λ key m w r. few_more w.did (acts.Will key m) refl r;
-    placed = λ key m ps c t n w r.
+    placed = λ key m ps c t n w copy r.
         let v = put_where (up_on key w.hub.connections) ps w in
         few_more v.did (acts.Placed key m) refl (sent_where Few put_few (up_on key w.hub.connections) ps (owes ((key, m) ∷ c) t n) w r);
     missed = λ key m c t n w is r. few_more w.did (acts.Missed key m) refl r;
@@ -137,7 +139,7 @@ module _ (L : List Conn) (X : Type 0) where
     drops = λ k why key terms last_activity fits w near stage m has short r. drops_few key (closing k why key terms w) r;
     removes = λ key w s none r. removes_few key w r;
     begins = λ client w s r. begins_few client w r;
-    rises = λ k key terms last_activity move present w own s known free none there up clean received r. rises_few k key terms last_activity move present w r;
+    rises = λ k key terms last_activity move present w own s known free none there up clean received plain r. rises_few k key terms last_activity move present w r;
   }
 
   ways : Ways May
@@ -145,11 +147,17 @@ module _ (L : List Conn) (X : Type 0) where
 
 -- ---- room
 
-all_room : (capacity : ℕ) (ss : List HubSession) → list_all (λ s. nat_le (needs s.key []) (capacity - length (uses s.end.book))) ss ≡ true
-all_room capacity [] = refl
-all_room capacity (s ∷ ss) =
-    let room = capacity - length (uses s.end.book) in
-    and_from (nat_le 0 room) (list_all (λ s. nat_le (needs s.key []) (capacity - length (uses s.end.book))) ss) (le-leb 0 room (omega arith)) (all_room capacity ss)
+no_bytes : (o : Option ℕ) (used : ℕ) → leaves o used 0 ≡ true
+no_bytes None used = refl
+no_bytes (Some most) used = le-leb 0 (most - used) (omega arith)
+
+all_room : (config : HubConfig) (ss : List HubSession) → list_all (fits_in config []) ss ≡ true
+all_room config [] = refl
+all_room config (s ∷ ss) =
+    let room = config.capacity - length (uses s.end.book) in
+    let bytes = leaves config.most_stored (stored_bytes s.end.book) 0 in
+    and_from (nat_le 0 room && bytes) (list_all (fits_in config []) ss)
+    (and_from (nat_le 0 room) bytes (le-leb 0 room (omega arith)) (no_bytes config.most_stored (stored_bytes s.end.book))) (all_room config ss)
 
 or_last : (b c : Bool) → c ≡ true → (b || c) ≡ true
 or_last true c e = refl
@@ -158,26 +166,41 @@ or_last false c e = e
 -- there is room for no copies
 room_none : (h : HubState) → have_room [] h ≡ true
 unfolding have_room all_fit
-room_none h =
-    or_last (drops_copies h.config.when_full) (list_all (λ s. nat_le (needs s.key []) (h.config.capacity - length (uses s.end.book))) h.sessions) (all_room h.config.capacity h.sessions)
+room_none h = or_last (drops_copies h.config.when_full) (list_all (fits_in h.config []) h.sessions) (all_room h.config h.sessions)
 
--- a session has fewer identifiers free than these copies need
-abbrev LacksRoom : List (ℕ × Message) → ℕ → List HubSession → Type 0
-LacksRoom copies capacity ss = (s : HubSession) × IsAmong s ss × (capacity - length (uses s.end.book) < needs s.key copies)
+-- a session has fewer identifiers free than its copies need, or may not store their bytes
+abbrev IsShortBy : List (ℕ × Message) → HubConfig → HubSession → Type 0
+IsShortBy copies config s =
+    (config.capacity - length (uses s.end.book) < needs s.key copies)
+    ⊎ (leaves config.most_stored (stored_bytes s.end.book) (needed_bytes s.key copies) ≡ false)
 
-lacks : (copies : List (ℕ × Message)) (capacity : ℕ) (ss : List HubSession) → list_all (λ s. nat_le (needs s.key copies) (capacity - length (uses s.end.book))) ss ≡ false → LacksRoom copies capacity ss
-lacks copies capacity [] h = absurd (true≢false h)
-lacks copies capacity (s ∷ ss) h = go (nat_le (needs s.key copies) (capacity - length (uses s.end.book))) refl h (lacks copies capacity ss)
+abbrev LacksRoom : List (ℕ × Message) → HubConfig → List HubSession → Type 0
+LacksRoom copies config ss = (s : HubSession) × IsAmong s ss × IsShortBy copies config s
+
+one_false : (a b : Bool) → (a && b) ≡ false → (a ≡ false) ⊎ (b ≡ false)
+one_false true b e = inr e
+one_false false b e = inl refl
+
+lacks : (copies : List (ℕ × Message)) (config : HubConfig) (ss : List HubSession) → list_all (fits_in config copies) ss ≡ false → LacksRoom copies config ss
+lacks copies config [] h = absurd (true≢false h)
+lacks copies config (s ∷ ss) h = go (fits_in config copies s) refl h (lacks copies config ss)
   where
-    go : (b : Bool) → nat_le (needs s.key copies) (capacity - length (uses s.end.book)) ≡ b
-        → (b && list_all (λ s. nat_le (needs s.key copies) (capacity - length (uses s.end.book))) ss) ≡ false
-        → (list_all (λ s. nat_le (needs s.key copies) (capacity - length (uses s.end.book))) ss ≡ false → LacksRoom copies capacity ss) → LacksRoom copies capacity (s ∷ ss)
-    go true e h ih = let r = ih h in (r.0, inr r.1, r.2)
-    go false e h ih = (s, inl refl, leb-false (needs s.key copies) (capacity - length (uses s.end.book)) e)
+    room : ℕ
+    room = config.capacity - length (uses s.end.book)
 
-not_room : (copies : List (ℕ × Message)) (h : HubState) → have_room copies h ≡ false → LacksRoom copies h.config.capacity h.sessions
+    short : (nat_le (needs s.key copies) room ≡ false) ⊎ (leaves config.most_stored (stored_bytes s.end.book) (needed_bytes s.key copies) ≡ false) → IsShortBy copies config s
+    short (inl e) = inl (leb-false (needs s.key copies) room e)
+    short (inr e) = inr e
+
+    go : (b : Bool) → fits_in config copies s ≡ b → (b && list_all (fits_in config copies) ss) ≡ false
+        → (list_all (fits_in config copies) ss ≡ false → LacksRoom copies config ss) → LacksRoom copies config (s ∷ ss)
+    go true e h ih = let r = ih h in (r.0, inr r.1, r.2)
+    go false e h ih =
+        (s, inl refl, short (one_false (nat_le (needs s.key copies) room) (leaves config.most_stored (stored_bytes s.end.book) (needed_bytes s.key copies)) e))
+
+not_room : (copies : List (ℕ × Message)) (h : HubState) → have_room copies h ≡ false → LacksRoom copies h.config h.sessions
 unfolding all_fit
-not_room copies h short = lacks copies h.config.capacity h.sessions (short_parts copies h short).1
+not_room copies h short = lacks copies h.config h.sessions (short_parts copies h short).1
 
 needs_for : (key : ℕ) (copies : List (ℕ × Message)) → needs key copies ≡ identifiers_for (for_client key copies)
 needs_for key [] = refl
@@ -188,6 +211,24 @@ needs_for key (x ∷ xs) = sum_by-cons (λ x. cond (eqb x.0 key && has_identifie
     go true ih =
         ap (λ (n : ℕ). cond (has_identifier x.1.qos) 1 0 + n) ih ∙ sym (sum_by-cons (λ (m : Message). cond (has_identifier m.qos) 1 0) x.1 (for_client key xs))
     go false ih = omega (arith, ih)
+
+bytes_needed : (key : ℕ) (copies : List (ℕ × Message)) → needed_bytes key copies ≡ bytes_for (for_client key copies)
+bytes_needed key [] = refl
+bytes_needed key (x ∷ xs) = sum_by-cons (λ x. cond (eqb x.0 key && has_identifier x.1.qos) (message_bytes x.1) 0) x xs ∙ go (eqb x.0 key) (bytes_needed key xs)
+  where
+    go : (a : Bool) → needed_bytes key xs ≡ bytes_for (for_client key xs)
+        → cond (a && has_identifier x.1.qos) (message_bytes x.1) 0 + needed_bytes key xs ≡ bytes_for (cond a (x.1 ∷ for_client key xs) (for_client key xs))
+    go true ih =
+        ap (λ (n : ℕ). cond (has_identifier x.1.qos) (message_bytes x.1) 0 + n) ih
+        ∙ sym (sum_by-cons (λ (m : Message). cond (has_identifier m.qos) (message_bytes m) 0) x.1 (for_client key xs))
+    go false ih = omega (arith, ih)
+
+-- the session is short of the messages that are routed to its client
+short_of : (copies : List (ℕ × Message)) (ms : List Message) (old config : HubConfig) (s : HubSession) → old ≡ config → for_client s.key copies ≡ ms → IsShortBy copies old s → IsShortOf config s ms
+short_of copies ms old config s same is (inl less) =
+    inl (subst₂ (λ (c : HubConfig) (n : ℕ). c.capacity - length (uses s.end.book) < n) same (needs_for s.key copies ∙ ap identifiers_for is) less)
+short_of copies ms old config s same is (inr lack) =
+    inr (subst₂ (λ (c : HubConfig) (n : ℕ). leaves c.most_stored (stored_bytes s.end.book) n ≡ false) same (bytes_needed s.key copies ∙ ap bytes_for is) lack)
 
 -- ---- the due copies are those that the acts route
 
@@ -271,7 +312,7 @@ left_full L why fits (ConnectedAs key terms last_activity) w e =
 left_full L why fits Closed w e = e
 
 full_close : (k : Conn) (fits : Bool) (w : Work) → full_closes w.did ≡ [] → full_closes (close k TargetFull fits w).did ≡ k ∷ []
-unfolding close full_by
+unfolding close shut_down full_by
 full_close k fits w none =
     left_full (k ∷ []) TargetFull fits (stage_of k w.hub.connections) (said (acts.Closed k TargetFull) (shut k w))
     (flat_map-append full_by w.did (acts.Closed k TargetFull ∷ []) ∙ ap (λ (l : List Conn). l ++ k ∷ []) none)
@@ -333,7 +374,7 @@ module _ (store : StoreLaws) (log : List Act) (config : HubConfig) where
   abbrev Told : Work → Type 0
   Told w = routing.Tells store log nothing w × (w.hub.config ≡ config)
 
-  too_much : (k : Conn) (p : Packet) (g : Growth) (w : Work) → Told w → IsFull k p (touched_on k w) → full_closes w.did ≡ [] → full_closes (takes k p g w).did ≡ k ∷ [] → IsTooMuch log config.capacity k p g w
+  too_much : (k : Conn) (p : Packet) (g : Growth) (w : Work) → Told w → IsFull k p (touched_on k w) → full_closes w.did ≡ [] → full_closes (takes k p g w).did ≡ k ∷ [] → IsTooMuch log config k p g w
   too_much k p g w told x none closes =
       let u = touched_on k w in
       let happenings = (server_gets p (end_of x.key u.hub.sessions)).happenings in
@@ -346,9 +387,8 @@ module _ (store : StoreLaws) (log : List Act) (config : HubConfig) where
         kind = kind.0;
         session = lack.0;
         exists = lack.1;
-        short = subst₂ (λ (c : HubConfig) (n : ℕ). c.capacity - length (uses lack.0.end.book) < n) told.1
-            (needs_for lack.0.key (due x.key u.hub happenings)
-            ∙ ap identifiers_for (due_routed store log u.hub lack.0.key x.key happenings kind.1 (seen lack.0.key (log ++ w.did)) (after.0 lack.0.key))) lack.2;
+        short = short_of (due x.key u.hub happenings) (routed_from lack.0.key (seen lack.0.key (log ++ w.did)) (asked x.key happenings)) u.hub.config config lack.0 told.1
+            (due_routed store log u.hub lack.0.key x.key happenings kind.1 (seen lack.0.key (log ++ w.did)) (after.0 lack.0.key)) lack.2;
         none_before = none;
         closes = closes;
       }
@@ -360,7 +400,7 @@ module _ (store : StoreLaws) (log : List Act) (config : HubConfig) where
       subst (λ (c : HubConfig). c.when_full ≡ ClosePublisher) same (short_parts (due x.key u.hub (server_gets p (end_of x.key u.hub.sessions)).happenings) u.hub x.short).0
 
   few_comes : (limits : Bounds) (k : Conn) (b : List ℕ) (w w2 : Work) (c : Comes limits k b w w2) → Sound w.hub → Told w → full_closes w.did ≡ []
-      → (full_closes w2.did ≡ []) ⊎ ((config.when_full ≡ ClosePublisher) × (full_closes w2.did ≡ k ∷ []) × ComesTooMuch log config.capacity limits k b w w2 c)
+      → (full_closes w2.did ≡ []) ⊎ ((config.when_full ≡ ClosePublisher) × (full_closes w2.did ≡ k ∷ []) × ComesTooMuch log config limits k b w w2 c)
   few_comes limits k b w w2 (Arrives p first rest g v v2 on reads more) s told none =
       let X : Type 0 = IsFull k p (touched_on k v) in
       let t = takes_both (Few [] X) (May [] X) Anywhere (inner [] X) (outer [] X) (ways [] X) anywhere k p g v tt tt
@@ -373,10 +413,10 @@ module _ (store : StoreLaws) (log : List Act) (config : HubConfig) where
       now = takes k p g v
 
       Ends : Type 0
-      Ends = (full_closes v2.did ≡ []) ⊎ ((config.when_full ≡ ClosePublisher) × (full_closes v2.did ≡ k ∷ []) × (IsTooMuch log config.capacity k p g v ⊎ ComesTooMuch log config.capacity limits k rest now v2 more))
+      Ends = (full_closes v2.did ≡ []) ⊎ ((config.when_full ≡ ClosePublisher) × (full_closes v2.did ≡ k ∷ []) × (IsTooMuch log config k p g v ⊎ ComesTooMuch log config limits k rest now v2 more))
 
       More : Type 0
-      More = (full_closes v2.did ≡ []) ⊎ ((config.when_full ≡ ClosePublisher) × (full_closes v2.did ≡ k ∷ []) × ComesTooMuch log config.capacity limits k rest now v2 more)
+      More = (full_closes v2.did ≡ []) ⊎ ((config.when_full ≡ ClosePublisher) × (full_closes v2.did ≡ k ∷ []) × ComesTooMuch log config limits k rest now v2 more)
 
       later : More → Ends
       later (inl e) = inl e
@@ -406,7 +446,7 @@ module _ (store : StoreLaws) (log : List Act) where
       inl (ap (λ (w : Work). full_closes w.did) d.1
       ∙ only (ended_both (Few [] ⊥) (May [] ⊥) Anywhere (inner [] ⊥) (outer [] ⊥) (ways [] ⊥) anywhere k (is_open (stage_of k h.connections)) d.0 (begin h) tt (s, inl refl)).1)
   few_event h (Tick now) r w d s a =
-      inl (only (ticks_both (Few [] ⊥) (May [] ⊥) Anywhere (inner [] ⊥) (outer [] ⊥) (ways [] ⊥) anywhere (λ fits w. tt) (inl (λ k. refl)) h.config.connect_within (max h.clock now) h.connections (begin (told now h)) w d.0 (s, inl refl)).1)
+      inl (only (tick_both (Few [] ⊥) (May [] ⊥) Anywhere (inner [] ⊥) (outer [] ⊥) (ways [] ⊥) anywhere (λ fits w. tt) (inl (λ k. refl)) (told now h) w d.0 (s, inl refl)).1)
   few_event h (Collect k) r w d s a = inl (ap (λ (w : Work). full_closes w.did) d.0)
 
 -- under DropCopy no event is too much

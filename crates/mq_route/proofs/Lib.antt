@@ -1,3 +1,4 @@
+mod StoredBytes
 mod Lines
 mod Uppers
 mod Sessions
@@ -23,4 +24,7 @@ mod Logging
 mod Reading
 mod Silence
 mod Clients
+mod PendingOutput
 mod Bounds
+mod Remaining
+mod Expiring

@@ -30,9 +30,9 @@ use Rattle.mq_route.specs.declared.connection_state.ConnectionState.TheVariants.
 use Rattle.mq_route.specs.Copies.{will_message, kept}
 use Rattle.mq_route.specs.Hub.{HubState, HubConnection, stage_of, is_open, key_on, held_on, up_on, key_of, end_of, with_end, copies_of}
 use Rattle.mq_route.specs.Welcome.{client_of, ends_with, refusal}
-use Rattle.mq_route.specs.Work.{Work, begin, said, with_sessions, staged, shut, put_on, put_where, does, publishes_next, is_missed, place, place_all, have_room, deliver, remove, last_will, will_after, remove_if, leaves_behind, close, subscribed, unsubscribed, retained_copies}
+use Rattle.mq_route.specs.Work.{Work, begin, said, with_sessions, staged, shut, put_on, put_where, does, publishes_next, is_missed, place, place_all, have_room, deliver, remove, last_will, will_after, remove_if, leaves_behind, shut_down, close, subscribed, unsubscribed, retained_copies}
 use Rattle.mq_route.specs.Arrives.{Growth, granted, due, answers, answers_all, replies, greeting, terms_of, resume_session, new_session, start_session, take_over, goes_on, accept_connect, on_connect, on_first_packet, dispatch_packet, touched_on, arrives, noted, takes, closes_by, broken, on_malformed}
-use Rattle.mq_route.specs.Step.{holding, Comes, Arrives, Waits, Breaks, Starves, LetsGo, Ticks, Done, InTime, Late, Does, ended_open, told}
+use Rattle.mq_route.specs.Step.{holding, Comes, Arrives, Waits, Breaks, Starves, LetsGo, Ticks, Done, InTime, Late, Does, ended_open, expired_keys, remove_all, expire, told}
 use Rattle.mq_route.specs.Reading.{logged_in, logged_by}
 
 put_logs : (to : Option Conn) (ps : List Packet) (w : Work) → (put_where to ps w).came ≡ w.came
@@ -81,7 +81,7 @@ leaves_log why fits (ConnectedAs key terms last_activity) w =
 leaves_log why fits Closed w = refl
 
 close_logs : (k : Conn) (why : HubClose) (fits : Bool) (w : Work) → (close k why fits w).came ≡ w.came
-unfolding close
+unfolding close shut_down
 close_logs k why fits w = leaves_log why fits (stage_of k w.hub.connections) (said (acts.Closed k why) (shut k w))
 
 -- ---- packets
@@ -199,6 +199,14 @@ ticks_log within now xs w w2 (Done v) = refl
 ticks_log within now xs w w2 (InTime x ys v v2 soon more) = ticks_log within now ys v v2 more
 ticks_log within now xs w w2 (Late x ys why fits v v2 late more) = ticks_log within now ys (close x.conn why fits v) v2 more ∙ close_logs x.conn why fits v
 
+remove_all_logs : (keys : List ℕ) (w : Work) → (remove_all keys w).came ≡ w.came
+remove_all_logs [] w = refl
+remove_all_logs (key ∷ keys) w = remove_all_logs keys (remove key w) ∙ remove_logs true key w
+
+expire_logs : (h : HubState) → (expire h).came ≡ []
+unfolding expire
+expire_logs h = remove_all_logs (expired_keys h) (begin h)
+
 ended_logs : (k : Conn) (alive fits : Bool) (w : Work) → (ended_open k alive fits w).came ≡ w.came
 ended_logs k true fits w = close_logs k PeerEnded fits w
 ended_logs k false fits w = refl
@@ -207,5 +215,5 @@ pub logs_event : (h : HubState) (e : HubEvent) (r : HubReply) (w : Work) (d : Do
 logs_event h (Opened k) r w d = ap (λ (w : Work). w.came) d.0
 logs_event h (Bytes k piece) r w d = comes_log h.config.limits k (held_on k h.connections ++ piece) (holding k [] (begin h)) w d.0
 logs_event h (Ended k) r w d = ap (λ (w : Work). w.came) d.1 ∙ ended_logs k (is_open (stage_of k h.connections)) d.0 (begin h)
-logs_event h (Tick now) r w d = ticks_log h.config.connect_within (max h.clock now) h.connections (begin (told now h)) w d.0
+logs_event h (Tick now) r w d = ticks_log h.config.connect_within (max h.clock now) h.connections (expire (told now h)) w d.0 ∙ expire_logs (told now h)
 logs_event h (Collect k) r w d = ap (λ (w : Work). w.came) d.0

@@ -1,5 +1,5 @@
 -- Each dropped will has a reason.
-use Rattle.std.proofs.Common.{◌≡◌, ◌⊎◌, inl, inr, ℕ, Bool, true, false, ◌&&◌, ◌||◌, cond, List, [], ◌∷◌, ◌++◌, map, length, nat_le, ◌-◌, max, Option, Some, is_some, refl, sym, ap, ap₂, subst, ◌∙◌, append-nil, eqb, eqb-true, true≢false}
+use Rattle.std.proofs.Common.{◌≡◌, ◌⊎◌, inl, inr, ℕ, Bool, true, false, ◌&&◌, ◌||◌, cond, List, [], ◌∷◌, ◌++◌, map, ◌-◌, max, Option, Some, is_some, refl, sym, ap, ap₂, subst, ◌∙◌, append-nil, eqb, eqb-true, true≢false}
 use Rattle.std.proofs.lemmas.List.Concat.{flat_map-append}
 use Rattle.std.specs.List.{flat_map, list_all}
 use Rattle.mq_topic.specs.Rows.{matched, without_client}
@@ -8,7 +8,6 @@ use Rattle.mq_packet.specs.declared.message.Message.{Message}
 use Rattle.mq_packet.specs.declared.packet.Packet.{Packet}
 use Rattle.mq_packet.specs.Encoding.{encodings}
 use Rattle.mq_decode.specs.Limits.{Bounds}
-use Rattle.mq_flow.specs.Sender.{uses}
 use Rattle.mq_end.specs.declared.reason.CloseReason.TheVariants as reasons
 use Rattle.mq_end.specs.End.{End, Reply, over}
 use Rattle.mq_route.specs.declared.act.Act.{Act}
@@ -27,14 +26,14 @@ use Rattle.mq_route.specs.declared.connection_state.ConnectionTerms.{ConnectionT
 use Rattle.mq_route.specs.Routed.{same_conn}
 use Rattle.mq_route.specs.Copies.{will_message, copy_by, is_hidden_name}
 use Rattle.mq_route.specs.Hub.{HubState, HubConnection, new_hub, is_connection, is_for, changed, stage_of, is_open, held_on, up_on, end_of, with_end, without_session, for_key, copies_of}
-use Rattle.mq_route.specs.Work.{Work, begin, said, with_sessions, staged, shut, put_on, put_where, does, drops_copies, needs, all_fit, have_room, remove, remove_if, will_after, close}
+use Rattle.mq_route.specs.Work.{Work, begin, said, with_sessions, staged, shut, put_on, put_where, does, drops_copies, fits_in, all_fit, have_room, remove, remove_if, will_after, close}
 use Rattle.mq_route.specs.Arrives.{new_session, touched, touched_on, takes}
-use Rattle.mq_route.specs.Step.{holding, Comes, Arrives, Waits, Breaks, Starves, LetsGo, Ticks, Done, InTime, Late, Does, told}
+use Rattle.mq_route.specs.Step.{holding, Comes, Arrives, Waits, Breaks, Starves, LetsGo, Ticks, Done, InTime, Late, Does, expired_keys, remove_all, expire, told}
 use Rattle.mq_route.specs.Dropped.{dropped_by, dropped, is_in, LosesWill, ComesLosing, TicksLosing, IsLosingEvent, WillLaws}
 use Rattle.mq_route.proofs.Lines.{one_conn, Names, Ups, grown, names_changed, ups_changed, stage_there}
 use Rattle.mq_route.proofs.Changes.{Debt, owes, nothing, Freely, freely, Anywhere, anywhere, Everywhere, Inner, sent_where, Outer, Nearby, IsShort, Sound, sound_holding, closing, rising, closed_line, names_grown, ups_grown}
 use Rattle.mq_route.proofs.Frames.{stage_firm}
-use Rattle.mq_route.proofs.Steps.{heard_mild, stage_heard, takes_both, breaks_both, close_both, ended_both}
+use Rattle.mq_route.proofs.Steps.{heard_mild, stage_heard, takes_both, breaks_both, close_both, expire_both, ended_both}
 use Rattle.mq_route.proofs.Events.{sound_new}
 use Rattle.mq_route.proofs.Output.{sound_run}
 use Rattle.mq_route.proofs.Missing.{short_parts}
@@ -125,9 +124,8 @@ nearby fits w = record { put = put_near fits w; touches = touch_near fits w }
 room_alike : (m : Message) (g h : HubState) → g.config ≡ h.config → g.sessions ≡ h.sessions → g.rows ≡ h.rows → ((c : ℕ) → up_on c g.connections ≡ up_on c h.connections)
     → have_room (copies_of m g) g ≡ have_room (copies_of m h) h
 unfolding have_room all_fit copies_of
-room_alike m g h c s r u = λ i. drops_copies (c i).when_full || list_all (λ x. nat_le
-    (needs x.key (cond (is_hidden_name m.topic) [] (flat_map (λ found. for_key found.0 (copy_by (is_some (u found.0 i)) m (Some found.1))) (matched m.topic (r i)))))
-    ((c i).capacity - length (uses x.end.book))) (s i)
+room_alike m g h c s r u = λ i. drops_copies (c i).when_full || list_all
+    (fits_in (c i) (cond (is_hidden_name m.topic) [] (flat_map (λ found. for_key found.0 (copy_by (is_some (u found.0 i)) m (Some found.1))) (matched m.topic (r i))))) (s i)
 
 -- a client's session is disconnected after its connection closed
 abbrev over_in : Conn → HubClose → ℕ → Work → Work
@@ -210,11 +208,12 @@ module _ (config : HubConfig) (fits : Bool) (w : Work) (is : w.hub.config ≡ co
   inner : Inner Everywhere Few
   unfolding dropped_by
   inner = record {
-    put = λ k ps o v own r. put_few k ps o v r;
+    put = λ k ps o v own plain r. put_few k ps o v r;
     moves = λ key e o v alike r. r;
+    marks = λ key now o v r. r;
     took = λ key m t n v r. few_more v.did (acts.Took key m) refl r;
     willed = λ key m v r. few_more v.did (acts.Will key m) refl r;
-    placed = λ key m ps c t n v r.
+    placed = λ key m ps c t n v copy r.
         let u = put_where (up_on key v.hub.connections) ps v in
         few_more u.did (acts.Placed key m) refl (sent_where Few put_few (up_on key v.hub.connections) ps (owes ((key, m) ∷ c) t n) v r);
     missed = λ key m c t n v is r. few_more v.did (acts.Missed key m) refl r;
@@ -267,7 +266,7 @@ module _ (config : HubConfig) (fits : Bool) (w : Work) (is : w.hub.config ≡ co
         drops_few key (closing k why key terms v).did (loses config fits w is other k why key terms last_activity v near stage m has short) r;
     removes = λ key v s none r. removes_few key v r;
     begins = λ client v s r. begins_few client v r;
-    rises = λ k key terms last_activity move present v own s known free none there up clean received r. rises_few k key terms last_activity move present v r;
+    rises = λ k key terms last_activity move present v own s known free none there up clean received plain r. rises_few k key terms last_activity move present v r;
   }
 
 few_comes : (config : HubConfig) (limits : Bounds) (k : Conn) (b : List ℕ) (w w2 : Work) (comes : Comes limits k b w w2) → Sound w.hub → w.hub.config ≡ config → (c : ℕ) → is_in c (dropped w2.did) ≡ true
@@ -325,6 +324,19 @@ few_ticks config within now xs w w2 (Late x ys why fits v v2 late more) s is c i
         soon (inl e) = inl e
         soon (inr x) = inr (inl x)
 
+-- no will is dropped when sessions expire
+dropped_removed : (keys : List ℕ) (w : Work) → dropped (remove_all keys w).did ≡ dropped w.did
+unfolding remove dropped_by
+dropped_removed [] w = refl
+dropped_removed (key ∷ keys) w = dropped_removed keys (remove key w) ∙ one key w
+  where
+    one : (key : ℕ) (w : Work) → dropped (remove key w).did ≡ dropped w.did
+    one key w = dropped_more w.did (acts.Removed key) ∙ append-nil (dropped w.did)
+
+dropped_expired : (h : HubState) → dropped (expire h).did ≡ []
+unfolding expire
+dropped_expired h = dropped_removed (expired_keys h) (begin h)
+
 -- a step begins with no will dropped
 none_yet : (A : Type 0) → (false ≡ true) ⊎ A → A
 none_yet A (inl e) = absurd (true≢false (sym e))
@@ -342,7 +354,14 @@ few_event h (Ended k) r w d s c i =
     let end = ended_both (Few h.config f b refl) Freely (IsNear f b) (inner h.config f b refl) (outer h.config f b refl) freely (nearby f b) k (is_open (stage_of k h.connections)) f b (at_itself f b) (s, λ c i. inl i) in
     none_yet (LosesWill h.config.when_full c f b) (end.1 c (subst (λ (w : Work). is_in c (dropped w.did) ≡ true) d.1 i))
 few_event h (Tick now) r w d s c i =
-    none_yet (TicksLosing h.config.when_full c h.config.connect_within (max h.clock now) h.connections (begin (told now h)) w d.0) (few_ticks h.config h.config.connect_within (max h.clock now) h.connections (begin (told now h)) w d.0 s refl c i)
+    let v = expire (told now h) in
+    let start = expire_both (reading.Same h.config) Freely Anywhere (reading.same_inner h.config) (reading.same_outer h.config) freely anywhere (told now h) (s, refl) in
+    go (TicksLosing h.config.when_full c h.config.connect_within (max h.clock now) h.connections v w d.0)
+    (few_ticks h.config h.config.connect_within (max h.clock now) h.connections v w d.0 start.0 start.1 c i)
+  where
+    go : (A : Type 0) → (is_in c (dropped (expire (told now h)).did) ≡ true) ⊎ A → A
+    go A (inl e) = absurd (true≢false (sym e ∙ ap (is_in c) (dropped_expired (told now h))))
+    go A (inr x) = x
 few_event h (Collect k) r w d s c i = absurd (true≢false (sym i ∙ ap (λ (w : Work). is_in c (dropped w.did)) d.0))
 
 pub laws : WillLaws

@@ -1,9 +1,10 @@
 -- Under ClosePublisher no copy is missed, and only then a copy lacks room.
-use Rattle.std.proofs.Common.{◌≡◌, ℕ, Bool, true, false, cond, eqb, List, [], ◌∷◌, ◌++◌, map, max, refl, sym, ap, ap₂, subst, ◌∙◌, true≢false, append-nil}
+use Rattle.std.proofs.Common.{◌≡◌, ℕ, Bool, true, false, not, ◌&&◌, ◌||◌, cond, eqb, List, [], ◌∷◌, ◌++◌, map, Option, None, refl, sym, ap, ap₂, subst, ◌∙◌, true≢false, append-nil}
 use Rattle.std.proofs.lemmas.Bool.{or_parts}
 use Rattle.std.proofs.lemmas.List.{map-append}
 use Rattle.std.proofs.lemmas.List.Concat.{flat_map-append}
 use Rattle.mq_packet.specs.declared.message.Message.{Message}
+use Rattle.mq_end.specs.Both.{has_identifier}
 use Rattle.mq_end.specs.End.{End, Reply, over}
 use Rattle.mq_route.specs.declared.act.Act.{Act}
 use Rattle.mq_route.specs.declared.act.Act.TheVariants as acts
@@ -19,13 +20,12 @@ use Rattle.mq_route.specs.declared.connection_state.ConnectionState.TheVariants.
 use Rattle.mq_route.specs.declared.connection_state.ConnectionTerms.{ConnectionTerms}
 use Rattle.mq_route.specs.Routed.{placed_by, placed, missed_by, missed, marked_by, marked, settled}
 use Rattle.mq_route.specs.Hub.{HubState, stage_of, is_open, held_on, up_on, end_of, with_end}
-use Rattle.mq_route.specs.Work.{Work, begin, said, with_sessions, staged, shut, put_on, put_where, does, drops_copies, is_missed, all_fit, have_room, remove, remove_if}
+use Rattle.mq_route.specs.Work.{Work, begin, said, with_sessions, staged, shut, put_on, put_where, does, drops_copies, leaves, lacks_room, pending_on, publish_bytes, is_missed, all_fit, have_room, remove, remove_if}
 use Rattle.mq_route.specs.Arrives.{new_session}
 use Rattle.mq_route.specs.Step.{Does, told, holding}
 use Rattle.mq_route.specs.Runs.{Episode, Follows, acts_of}
-use Rattle.mq_route.proofs.Books.{and_both}
 use Rattle.mq_route.proofs.Changes.{Freely, freely, Anywhere, anywhere, Debt, owes, nothing, Everywhere, Inner, Sends, sent_where, Outer, Sound, closing, rising}
-use Rattle.mq_route.proofs.Steps.{comes_both, holding_both, ticks_both, ended_both}
+use Rattle.mq_route.proofs.Steps.{comes_both, holding_both, tick_both, ended_both}
 use Rattle.mq_route.proofs.Events.{acts_are}
 use Rattle.mq_route.proofs.Output.{sound_event}
 
@@ -69,7 +69,7 @@ settled_is c (act ∷ log) e =
 
 -- ---- one more act
 
-module _ (config : HubConfig) (keep : drops_copies config.when_full ≡ false) where
+module _ (config : HubConfig) (keep : drops_copies config.when_full ≡ false) (unlimited : config.most_waiting ≡ None) where
   -- none of these acts is a miss
   abbrev NoMiss : List Act → Type 0
   NoMiss did = (c : ℕ) → missed c did ≡ []
@@ -82,7 +82,10 @@ module _ (config : HubConfig) (keep : drops_copies config.when_full ≡ false) w
 
   never : (key : ℕ) (m : Message) (w : Work) → w.hub.config ≡ config → is_missed key m w.hub ≡ true → ⊥
   never key m w same is =
-      true≢false (sym (and_both (drops_copies w.hub.config.when_full) _ is).0 ∙ ap (λ (c : HubConfig). drops_copies c.when_full) same ∙ keep)
+      let pending = pending_on (up_on key w.hub.connections) w.hub.connections in
+      let kept = ap (λ (d : Bool). d && lacks_room key m w.hub) (ap (λ (c : HubConfig). drops_copies c.when_full) same ∙ keep) in
+      let sent = ap (λ (o : Option ℕ). not (leaves o pending (publish_bytes m)) && not (has_identifier m.qos)) (ap (λ (c : HubConfig). c.most_waiting) same ∙ unlimited) in
+      true≢false (sym is ∙ ap₂ (λ (a b : Bool). a || b) kept sent)
 
   put_calm : Sends Calm
   unfolding put_on
@@ -91,11 +94,12 @@ module _ (config : HubConfig) (keep : drops_copies config.when_full ≡ false) w
   inner : Inner Everywhere Calm
   unfolding missed_by
   inner = record {
-    put = λ k ps o w own r. put_calm k ps o w r;
+    put = λ k ps o w own plain r. put_calm k ps o w r;
     moves = λ key e o w alike r. r;
+    marks = λ key now o w r. r;
     took = λ key m t n w r. (r.0, more w.did (acts.Took key m) (λ c. refl) r.1);
     willed = λ key m w r. (r.0, more w.did (acts.Will key m) (λ c. refl) r.1);
-    placed = λ key m ps c t n w r.
+    placed = λ key m ps c t n w copy r.
         let v = put_where (up_on key w.hub.connections) ps w in
         let sent = sent_where Calm put_calm (up_on key w.hub.connections) ps (owes ((key, m) ∷ c) t n) w r in
         (sent.0, more v.did (acts.Placed key m) (λ c. refl) sent.1);
@@ -145,7 +149,7 @@ module _ (config : HubConfig) (keep : drops_copies config.when_full ≡ false) w
     drops = λ k why key terms last_activity fits w near stage m has short r. drops_calm key (closing k why key terms w) r;
     removes = λ key w s none r. removes_calm key w r;
     begins = λ client w s r. begins_calm client w r;
-    rises = λ k key terms last_activity move present w own s known free none there up clean received r. rises_calm k key terms last_activity move present w r;
+    rises = λ k key terms last_activity move present w own s known free none there up clean received plain r. rises_calm k key terms last_activity move present w r;
   }
 
   -- ---- events
@@ -159,7 +163,7 @@ module _ (config : HubConfig) (keep : drops_copies config.when_full ≡ false) w
       let end = ended_both Calm Freely Anywhere inner outer freely anywhere k (is_open (stage_of k h.connections)) d.0 (begin h) tt (s, (same, λ c. refl)) in
       subst (Calm nothing) (sym d.1) (end.1.0, end.1.1)
   calm_event h (Tick now) r w d s same =
-      (ticks_both Calm Freely Anywhere inner outer freely anywhere (λ fits w. tt) tt h.config.connect_within (max h.clock now) h.connections (begin (told now h)) w d.0 (s, (same, λ c. refl))).1
+      (tick_both Calm Freely Anywhere inner outer freely anywhere (λ fits w. tt) tt (told now h) w d.0 (s, (same, λ c. refl))).1
   calm_event h (Collect k) r w d s same = subst (Calm nothing) (sym d.0) (same, λ c. refl)
 
   pub none_run : (es : List Episode) (h h2 : HubState) → Follows h es h2 → Sound h → h.config ≡ config → NoMiss (acts_of es)

@@ -1,11 +1,12 @@
 -- The bytes written on a connection are the encodings of the packets that were sent on it.
-use Rattle.std.proofs.Common.{◌≡◌, ℕ, Bool, true, false, not, cond, ◌||◌, List, [], ◌∷◌, ◌++◌, map, max, None, refl, sym, ap, ap₂, subst, ◌∙◌, append_assoc, append-nil}
+use Rattle.std.proofs.Common.{◌≡◌, ℕ, Bool, true, false, not, cond, ◌||◌, List, [], ◌∷◌, ◌++◌, map, None, refl, sym, ap, ap₂, subst, ◌∙◌, append_assoc, append-nil}
 use Rattle.std.proofs.lemmas.Bool.{cond-true, cond-false}
 use Rattle.std.proofs.lemmas.List.Concat.{flat_map-append}
 use Rattle.mq_packet.specs.declared.packet.Packet.{Packet}
 use Rattle.mq_packet.specs.Encoding.{encoding, encodings}
 use Rattle.mq_end.specs.End.{End, Reply, over}
 use Rattle.mq_route.specs.declared.act.Act.TheVariants as acts
+use Rattle.mq_route.specs.declared.close.HubClose.{HubClose}
 use Rattle.mq_route.specs.declared.conn.Conn.{Conn}
 use Rattle.mq_route.specs.declared.event.HubEvent.{HubEvent}
 use Rattle.mq_route.specs.declared.event.HubEvent.TheVariants.{Opened, Bytes, Ended, Tick, Collect}
@@ -14,14 +15,14 @@ use Rattle.mq_route.specs.declared.connection_state.ConnectionState.TheVariants.
 use Rattle.mq_route.specs.declared.connection_state.ConnectionTerms.{ConnectionTerms}
 use Rattle.mq_route.specs.Routed.{same_conn}
 use Rattle.mq_route.specs.Hub.{HubState, HubConnection, is_connection, knows, waiting_on, stage_of, changed, with_connection, without_connection, is_open, held_on, up_on, end_of, with_end}
-use Rattle.mq_route.specs.Work.{Work, begin, said, with_sessions, staged, shut, put_on, does, remove, remove_if}
+use Rattle.mq_route.specs.Work.{Work, begin, said, with_sessions, staged, shut, put_on, does, remove, remove_if, close}
 use Rattle.mq_route.specs.Arrives.{new_session}
-use Rattle.mq_route.specs.Step.{Does, event_refusal, opened, ended, ended_open, collected, told, holding}
+use Rattle.mq_route.specs.Step.{Does, event_refusal, opened, ended, ended_open, collected, expire, told, holding}
 use Rattle.mq_route.specs.Runs.{Episode, Follows, Stays, ends_it, collects, written_by, written, sent_in, on_conn}
 use Rattle.mq_route.proofs.Lines.{one_conn, Names, Bytes as BytesStay, grown, names_changed, bytes_changed, knows_map, waiting_map, put_here, put_there}
 use Rattle.mq_route.proofs.Uppers.{newcomer, risen}
 use Rattle.mq_route.proofs.Changes.{Anywhere, anywhere, Freely, freely, Debt, owes, nothing, Everywhere, Inner, sent_where, Outer, Sound, names_grown, closed_line}
-use Rattle.mq_route.proofs.Steps.{comes_both, holding_both, ticks_both, ended_both}
+use Rattle.mq_route.proofs.Steps.{close_both, comes_both, holding_both, expire_both, tick_both, ended_both}
 use Rattle.mq_route.proofs.Events.{not_known, sound_opened, sound_collected, sound_without, ended_idle, emptied}
 
 -- ---- the packets of a connection
@@ -34,11 +35,11 @@ on_conn-append n (x ∷ xs) ys = go (same_conn x.0 n) (on_conn-append n xs ys)
     go true ih = ap (λ (l : List Packet). x.1 ∷ l) ih
     go false ih = ih
 
-on_conn-own : (k n : Conn) (ps : List Packet) → same_conn k n ≡ true → on_conn n (map (λ p. (k, p)) ps) ≡ ps
+pub on_conn-own : (k n : Conn) (ps : List Packet) → same_conn k n ≡ true → on_conn n (map (λ p. (k, p)) ps) ≡ ps
 on_conn-own k n [] e = refl
 on_conn-own k n (p ∷ ps) e = cond-true (same_conn k n) (p ∷ on_conn n (map (λ p. (k, p)) ps)) (on_conn n (map (λ p. (k, p)) ps)) e ∙ ap (λ (l : List Packet). p ∷ l) (on_conn-own k n ps e)
 
-on_conn-other : (k n : Conn) (ps : List Packet) → same_conn k n ≡ false → on_conn n (map (λ p. (k, p)) ps) ≡ []
+pub on_conn-other : (k n : Conn) (ps : List Packet) → same_conn k n ≡ false → on_conn n (map (λ p. (k, p)) ps) ≡ []
 on_conn-other k n [] e = refl
 on_conn-other k n (p ∷ ps) e = cond-false (same_conn k n) (p ∷ on_conn n (map (λ p. (k, p)) ps)) (on_conn n (map (λ p. (k, p)) ps)) e ∙ on_conn-other k n ps e
 
@@ -75,11 +76,12 @@ module _ (n : Conn) (base : List ℕ) where
 
   pub inner : Inner Everywhere Grows
   inner = record {
-    put = λ k ps o w own r. put_grows k ps o w r;
+    put = λ k ps o w own plain r. put_grows k ps o w r;
     moves = λ key e o w alike r. r;
+    marks = λ key now o w r. r;
     took = λ key m t c w r. r;
     willed = λ key m w r. r;
-    placed = λ key m ps d t c w r. sent_where Grows put_grows (up_on key w.hub.connections) ps (owes ((key, m) ∷ d) t c) w r;
+    placed = λ key m ps d t c w copy r. sent_where Grows put_grows (up_on key w.hub.connections) ps (owes ((key, m) ∷ d) t c) w r;
     missed = λ key m d t c w is r. r;
     subscribed = λ key f q d t c w r. r;
     unsubscribed = λ key f o w r. r;
@@ -121,11 +123,11 @@ module _ (n : Conn) (base : List ℕ) where
     drops = λ k why key terms last_activity fits w near stage m has short r. r;
     removes = λ key w s none r. remove_grows key w r;
     begins = λ client w s r. begins_grows client w r;
-    rises = λ k key terms last_activity move present w own s known free none there up clean received r. rises_grows k key terms last_activity move w r;
+    rises = λ k key terms last_activity move present w own s known free none there up clean received plain r. rises_grows k key terms last_activity move w r;
   }
 
 -- the connection's output is taken
-emptied_here : (n : Conn) (xs : List HubConnection) → waiting_on n (with_connection emptied n xs) ≡ []
+pub emptied_here : (n : Conn) (xs : List HubConnection) → waiting_on n (with_connection emptied n xs) ≡ []
 emptied_here n [] = refl
 emptied_here n (x ∷ xs) = go (is_connection n x) refl (emptied_here n xs)
   where
@@ -144,11 +146,12 @@ Any o w = Unit {0}
 
 pub any_inner : Inner Everywhere Any
 any_inner = record {
-  put = λ k ps o w own r. tt;
+  put = λ k ps o w own plain r. tt;
   moves = λ key e o w alike r. tt;
+  marks = λ key now o w r. tt;
   took = λ key m t c w r. tt;
   willed = λ key m w r. tt;
-  placed = λ key m ps d t c w r. tt;
+  placed = λ key m ps d t c w copy r. tt;
   missed = λ key m d t c w is r. tt;
   subscribed = λ key f q d t c w r. tt;
   unsubscribed = λ key f o w r. tt;
@@ -164,7 +167,7 @@ any_outer = record {
   drops = λ k why key terms last_activity fits w near stage m has short r. tt;
   removes = λ key w s none r. tt;
   begins = λ client w s r. tt;
-  rises = λ k key terms last_activity move present w own s known free none there up clean received r. tt;
+  rises = λ k key terms last_activity move present w own s known free none there up clean received plain r. tt;
 }
 
 -- ---- events
@@ -173,7 +176,7 @@ any_outer = record {
 abbrev pub Leaves : Conn → HubState → HubEvent → HubReply → Work → Type 0
 Leaves n h e r w = Sound w.hub × (knows n w.hub.connections ≡ true) × (cond (collects n e) r.output [] ++ waiting_on n w.hub.connections ≡ waiting_on n h.connections ++ encodings (on_conn n w.sent))
 
-waiting_opened : (n k : Conn) (at : ℕ) (xs : List HubConnection) → knows n xs ≡ true → waiting_on n (xs ++ newcomer k at ∷ []) ≡ waiting_on n xs
+pub waiting_opened : (n k : Conn) (at : ℕ) (xs : List HubConnection) → knows n xs ≡ true → waiting_on n (xs ++ newcomer k at ∷ []) ≡ waiting_on n xs
 waiting_opened n k at [] h = absurd cc
 waiting_opened n k at (x ∷ xs) h = go (is_connection n x) refl (waiting_opened n k at xs)
   where
@@ -183,7 +186,7 @@ waiting_opened n k at (x ∷ xs) h = go (is_connection n x) refl (waiting_opened
     go false e ih =
         ap (λ (b : List ℕ). cond (is_connection n x) x.waiting b) (ih (sym (ap (λ (t : Bool). t || knows n xs) e) ∙ h))
 
-knows_opened : (n k : Conn) (at : ℕ) (xs : List HubConnection) → knows n xs ≡ true → knows n (xs ++ newcomer k at ∷ []) ≡ true
+pub knows_opened : (n k : Conn) (at : ℕ) (xs : List HubConnection) → knows n xs ≡ true → knows n (xs ++ newcomer k at ∷ []) ≡ true
 knows_opened n k at [] h = absurd cc
 knows_opened n k at (x ∷ xs) h = go (is_connection n x) (knows_opened n k at xs) h
   where
@@ -247,7 +250,7 @@ leaves n h (Ended k) r w right d stays s known =
     (grew n h (Ended k) r (ended k fits h) refl (sound_without k v (ended_idle k fits (begin h)) end.0) (kept.0 ∙ end.1.0, kept.1 ∙ end.1.1))
 leaves n h (Tick now) r w right d stays s known =
     let base = waiting_on n h.connections in
-    let end = ticks_both (Grows n base) Freely Anywhere (inner n base) (outer n base) freely anywhere (λ fits w. tt) tt h.config.connect_within (max h.clock now) h.connections (begin (told now h)) w d.0 (s, begins_at n h known) in
+    let end = tick_both (Grows n base) Freely Anywhere (inner n base) (outer n base) freely anywhere (λ fits w. tt) tt (told now h) w d.0 (s, begins_at n h known) in
     grew n h (Tick now) r w refl end.0 end.1
 leaves n h (Collect k) r w right d stays s known =
     subst (Leaves n h (Collect k) r) (sym d.0) (collected_leaves n k h r (ap (λ (r : HubReply). r.output) d.1) s known)
@@ -261,8 +264,14 @@ sound_event h (Bytes k piece) r w right d s = (comes_both Any Freely Anywhere an
 sound_event h (Ended k) r w right d s =
     let v = ended_open k (is_open (stage_of k h.connections)) d.0 (begin h) in
     subst (λ (w : Work). Sound w.hub) (sym d.1) (sound_without k v (ended_idle k d.0 (begin h)) (ended_both Any Freely Anywhere any_inner any_outer freely anywhere k (is_open (stage_of k h.connections)) d.0 (begin h) tt (s, tt)).0)
-sound_event h (Tick now) r w right d s = (ticks_both Any Freely Anywhere any_inner any_outer freely anywhere (λ fits w. tt) tt h.config.connect_within (max h.clock now) h.connections (begin (told now h)) w d.0 (s, tt)).0
+sound_event h (Tick now) r w right d s = (tick_both Any Freely Anywhere any_inner any_outer freely anywhere (λ fits w. tt) tt (told now h) w d.0 (s, tt)).0
 sound_event h (Collect k) r w right d s = subst (λ (w : Work). Sound w.hub) (sym d.0) (sound_collected k h s)
+
+pub sound_close : (k : Conn) (why : HubClose) (fits : Bool) (w : Work) → Sound w.hub → Sound (close k why fits w).hub
+sound_close k why fits w s = (close_both Any Freely Anywhere any_inner any_outer freely anywhere k why fits w tt tt (s, tt)).0
+
+pub sound_expire : (h : HubState) → Sound h → Sound (expire h).hub
+sound_expire h s = (expire_both Any Freely Anywhere any_inner any_outer freely anywhere h (s, tt)).0
 
 pub sound_run : (es : List Episode) (h h2 : HubState) → Follows h es h2 → Sound h → Sound h2
 sound_run [] h h2 f s = subst Sound (sym f) s

@@ -1,6 +1,7 @@
 -- A step sends packets on the connection of its event, and copies to clients.
-use Rattle.std.proofs.Common.{◌≡◌, ℕ, Bool, true, false, cond, ◌||◌, List, [], ◌∷◌, ◌++◌, map, max, Option, Some, None, refl, sym, ap, subst, ◌∙◌, true≢false, eqb, eq-eqb}
+use Rattle.std.proofs.Common.{◌≡◌, ℕ, Bool, true, false, cond, ◌||◌, List, [], ◌∷◌, ◌++◌, length, map, max, Option, Some, None, refl, sym, ap, subst, ◌∙◌, true≢false, eqb, eq-eqb}
 use Rattle.std.proofs.lemmas.Bool.{cond-true, cond-false, or_parts}
+use Rattle.std.proofs.Math.Nat.{le-max_left, le-max_right}
 use Rattle.std.specs.List.{list_any}
 use Rattle.mq_packet.specs.declared.packet.Packet.{Packet}
 use Rattle.mq_packet.specs.declared.message.Message.{Message}
@@ -8,6 +9,7 @@ use Rattle.mq_packet.specs.Encoding.{encodings}
 use Rattle.mq_end.specs.End.{End, Reply, over}
 use Rattle.mq_route.specs.declared.act.Act.{Act}
 use Rattle.mq_route.specs.declared.act.Act.TheVariants as acts
+use Rattle.mq_route.specs.declared.config.HubConfig.{HubConfig}
 use Rattle.mq_route.specs.declared.conn.Conn.{Conn}
 use Rattle.mq_route.specs.declared.event.HubEvent.{HubEvent}
 use Rattle.mq_route.specs.declared.event.HubEvent.TheVariants.{Opened, Bytes, Ended, Tick, Collect}
@@ -24,9 +26,11 @@ use Rattle.mq_route.specs.Laws.{places_on, OutputLaws}
 use Rattle.mq_route.proofs.Lines.{one_conn, same_conn-itself, up_is, conn_in, upper, Names, Bytes as BytesStay, Ups, grown, names_changed, bytes_changed, ups_changed, up_map, waiting_map, put_there}
 use Rattle.mq_route.proofs.Uppers.{newcomer, unless, upper_stage, upper_risen}
 use Rattle.mq_route.proofs.Changes.{Freely, freely, Anywhere, anywhere, Debt, owes, nothing, Inner, Outer, Sound, names_grown, up_put, up_put_where, upper_shut, closed_line, closing, rising}
-use Rattle.mq_route.proofs.Steps.{comes_both, holding_both, ticks_both, ended_both}
+use Rattle.mq_route.proofs.Steps.{comes_both, holding_both, tick_both, ended_both}
 use Rattle.mq_route.proofs.Events.{emptied, sound_new, acts_are}
 use Rattle.mq_route.proofs.Output.{kept_line, written_is, sound_run}
+use Rattle.mq_route.proofs.PendingOutput.{bounded_run}
+use Rattle.mq_route.proofs.Reading.{same_run}
 
 -- an act that is one of these
 any_more : (p : Act → Bool) (did : List Act) (act : Act) → list_any p (did ++ act ∷ []) ≡ false → (list_any p did ≡ false) × (p act ≡ false)
@@ -101,11 +105,12 @@ module _ (n : Conn) (h : HubState) where
 
   inner : Inner IsOther Quiet
   inner = record {
-    put = put_quiet;
+    put = λ k ps o w own plain r. put_quiet k ps o w own r;
     moves = λ key e o w alike r. r;
+    marks = λ key now o w r. r;
     took = λ key m t c w r. more (acts.Took key m) (owes [] ((key, m) ∷ t) c) nothing w r;
     willed = λ key m w r. more (acts.Will key m) nothing nothing w r;
-    placed = λ key m ps d t c w r. placed_quiet key m ps nothing nothing w r;
+    placed = λ key m ps d t c w copy r. placed_quiet key m ps nothing nothing w r;
     missed = λ key m d t c w is r. more (acts.Missed key m) nothing nothing w r;
     subscribed = λ key f q d t c w r. more (acts.Subscribed key f q) nothing nothing w r;
     unsubscribed = λ key f o w r. more (acts.Unsubscribed key f) nothing nothing w r;
@@ -179,7 +184,7 @@ module _ (n : Conn) (h : HubState) where
     drops = λ k why key terms last_activity fits w near stage m has short r. more (acts.WillDropped key) nothing nothing (closing k why key terms w) r;
     removes = λ key w s none r. remove_quiet true key w r;
     begins = λ client w s r. begins_quiet client w r;
-    rises = λ k key terms last_activity move present w own s known fresh none there up clean received r.
+    rises = λ k key terms last_activity move present w own s known fresh none there up clean received plain r.
         rises_quiet k key terms last_activity move present w own (upper_risen k key terms last_activity w.hub.connections s.apart known (subst (λ t. (c : ℕ) → is_for c t ≡ false) (sym fresh) (λ c. refl)) none) r;
   }
 
@@ -214,7 +219,7 @@ module _ (n : Conn) (h : HubState) where
       ∙ (kept_line n k other v.hub.connections).1
       ∙ end.1.1 (sym (ap (λ (w : Work). list_any (places_on n h) w.did) d.1) ∙ none)
   event (Tick now) r w d s other none =
-      (ticks_both Quiet Freely Anywhere inner outer freely anywhere (λ fits w. tt) tt h.config.connect_within (max h.clock now) h.connections (begin (told now h)) w d.0 (s, starts s)).1.1 none
+      (tick_both Quiet Freely Anywhere inner outer freely anywhere (λ fits w. tt) tt (told now h) w d.0 (s, starts s)).1.1 none
   event (Collect k) r w d s other none = ap (λ (w : Work). waiting_on n w.hub.connections) d.0 ∙ put_there k n emptied h.connections (λ x. refl) other
 
   pub others : (e : HubEvent) (r : HubReply) (h2 : HubState) → HubStep h e r h2 → Sound h → is_on n e ≡ false → list_any (places_on n h) r.acts ≡ false
@@ -227,4 +232,9 @@ pub laws : OutputLaws
 laws = record {
   written_is_put_out = λ config before h after h2 f g k stays known. written_is k after h h2 g stays (sound_run before (new_hub config) h f (sound_new config)) known;
   others_unchanged = λ config before h f e r h2 step k other none. others k h e r h2 step (sound_run before (new_hub config) h f (sound_new config)) other none;
+  waiting_within = λ config most limited before h after h2 f g k stays known.
+      let s = sound_run before (new_hub config) h f (sound_new config) in
+      let limit = ap (λ (c : HubConfig). c.most_waiting) (same_run before (new_hub config) h f (sound_new config)) ∙ limited in
+      let few = length (waiting_on k h.connections) in
+      bounded_run k most (max most few) (le-max_left most few) after h h2 g stays s known limit (le-max_right most few);
 }

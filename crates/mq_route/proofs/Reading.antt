@@ -1,5 +1,5 @@
 -- The packets that are read are those that the bytes encode.
-use Rattle.std.proofs.Common.{◌≡◌, ℕ, Bool, true, false, not, cond, ◌&&◌, ◌||◌, List, [], ◌∷◌, ◌++◌, max, Option, Some, None, refl, sym, ap, subst, ◌∙◌, true≢false, append_assoc, append-nil}
+use Rattle.std.proofs.Common.{◌≡◌, ℕ, Bool, true, false, not, cond, ◌&&◌, ◌||◌, List, [], ◌∷◌, ◌++◌, Option, Some, None, refl, sym, ap, subst, ◌∙◌, true≢false, append_assoc, append-nil}
 use Rattle.std.proofs.lemmas.Bool.{cond-true, cond-false, cond_both}
 use Rattle.mq_packet.specs.declared.packet.Packet.{Packet}
 use Rattle.mq_packet.specs.Encoding.{encodings}
@@ -33,7 +33,7 @@ use Rattle.mq_route.proofs.Lines.{one_conn, same_conn-itself, Names, grown, name
 use Rattle.mq_route.proofs.Uppers.{newcomer, risen}
 use Rattle.mq_route.proofs.Changes.{Anywhere, anywhere, Freely, freely, Debt, owes, nothing, Everywhere, Inner, Sends, sent_where, Outer, Sound, names_grown, closed_line, rising}
 use Rattle.mq_route.proofs.Frames.{Firm, stage_firm, closed_shut}
-use Rattle.mq_route.proofs.Steps.{comes_both, holding_both, ticks_both, ended_both}
+use Rattle.mq_route.proofs.Steps.{comes_both, holding_both, tick_both, ended_both}
 use Rattle.mq_route.proofs.Events.{sound_new, emptied}
 use Rattle.mq_route.proofs.Output.{leaves, sound_event, sound_run}
 use Rattle.mq_route.proofs.Logging.{logs_event}
@@ -50,11 +50,12 @@ module _ (c : HubConfig) where
 
   pub same_inner : Inner Everywhere Same
   same_inner = record {
-    put = λ k ps o w own r. same_put k ps o w r;
+    put = λ k ps o w own plain r. same_put k ps o w r;
     moves = λ key e o w alike r. r;
+    marks = λ key now o w r. r;
     took = λ key m t n w r. r;
     willed = λ key m w r. r;
-    placed = λ key m ps d t n w r. sent_where Same same_put (up_on key w.hub.connections) ps (owes ((key, m) ∷ d) t n) w r;
+    placed = λ key m ps d t n w copy r. sent_where Same same_put (up_on key w.hub.connections) ps (owes ((key, m) ∷ d) t n) w r;
     missed = λ key m d t n w is r. r;
     subscribed = λ key f q d t n w r. r;
     unsubscribed = λ key f o w r. r;
@@ -86,7 +87,7 @@ module _ (c : HubConfig) where
     drops = λ k why key terms last_activity fits w near stage m has short r. r;
     removes = λ key w s none r. same_removed true key w r;
     begins = λ client w s r. same_begun client w r;
-    rises = λ k key terms last_activity move present w own s known fresh none there up clean received r. same_risen k key terms last_activity move present w r;
+    rises = λ k key terms last_activity move present w own s known fresh none there up clean received plain r. same_risen k key terms last_activity move present w r;
   }
 
 pub same_event : (h : HubState) (e : HubEvent) (r : HubReply) (w : Work) → Does h e r w → Sound h → w.hub.config ≡ h.config
@@ -100,7 +101,7 @@ same_event h (Ended k) r w d s =
     ap (λ (w : Work). w.hub.config) d.1 ∙ (ended_both (Same c) Freely Anywhere (same_inner c) (same_outer c) freely anywhere k (is_open (stage_of k h.connections)) d.0 (begin h) tt (s, refl)).1
 same_event h (Tick now) r w d s =
     let c = h.config in
-    (ticks_both (Same c) Freely Anywhere (same_inner c) (same_outer c) freely anywhere (λ fits w. tt) tt h.config.connect_within (max h.clock now) h.connections (begin (told now h)) w d.0 (s, refl)).1
+    (tick_both (Same c) Freely Anywhere (same_inner c) (same_outer c) freely anywhere (λ fits w. tt) tt (told now h) w d.0 (s, refl)).1
 same_event h (Collect k) r w d s = ap (λ (w : Work). w.hub.config) d.0
 
 pub same_run : (es : List Episode) (h h2 : HubState) → Follows h es h2 → Sound h → h2.config ≡ h.config
@@ -124,11 +125,12 @@ module _ (n : Conn) (A : Type 0) (kept : List ℕ) where
 
   still_inner : Inner Everywhere Still
   still_inner = record {
-    put = λ k ps o w own r. put_still k ps o w r;
+    put = λ k ps o w own plain r. put_still k ps o w r;
     moves = λ key e o w alike r. r;
+    marks = λ key now o w r. r;
     took = λ key m t c w r. r;
     willed = λ key m w r. r;
-    placed = λ key m ps d t c w r. sent_where Still put_still (up_on key w.hub.connections) ps (owes ((key, m) ∷ d) t c) w r;
+    placed = λ key m ps d t c w copy r. sent_where Still put_still (up_on key w.hub.connections) ps (owes ((key, m) ∷ d) t c) w r;
     missed = λ key m d t c w is r. r;
     subscribed = λ key f q d t c w r. r;
     unsubscribed = λ key f o w r. r;
@@ -187,7 +189,7 @@ module _ (n : Conn) (A : Type 0) (kept : List ℕ) where
     drops = λ k why key terms last_activity fits w near stage m has short r. r;
     removes = λ key w s none r. removed_still true key w r;
     begins = λ client w s r. begun_still client w r;
-    rises = λ k key terms last_activity move present w own s known fresh none there up clean received r. risen_still k key terms last_activity move present w fresh r;
+    rises = λ k key terms last_activity move present w own s known fresh none there up clean received plain r. risen_still k key terms last_activity move present w fresh r;
   }
 
 -- ---- bytes of a connection
@@ -327,7 +329,7 @@ reads_event n h (Tick now) r w right d stays s known =
     let A : Type 0 = is_open (stage_of n h.connections) ≡ true in
     let b = held_on n h.connections in
     quiet n h.config.limits h w
-    (ticks_both (Still n A b) Freely Anywhere (still_inner n A b) (still_outer n A b) freely anywhere (λ fits w. tt) tt h.config.connect_within (max h.clock now) h.connections (begin (told now h)) w d.0 (s, begins_still n h)).1
+    (tick_both (Still n A b) Freely Anywhere (still_inner n A b) (still_outer n A b) freely anywhere (λ fits w. tt) tt (told now h) w d.0 (s, begins_still n h)).1
 reads_event n h (Collect k) r w right d stays s known =
     let f = changed emptied k in
     let names : Names f = names_changed emptied k (λ x. refl) in

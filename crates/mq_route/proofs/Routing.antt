@@ -1,5 +1,5 @@
 -- The messages placed for a client, and those that it missed, are those that the acts route to it.
-use Rattle.std.proofs.Common.{◌≡◌, ℕ, Bool, true, false, cond, ◌&&◌, List, [], ◌∷◌, ◌++◌, fold, map, max, Option, Some, None, is_some, T, refl, sym, ap, ap₂, subst, ◌∙◌, append_assoc, append-nil, eqb, eqb-true, eq-eqb, ne_eqb, ltb, ltb-true, ◌<◌, arith}
+use Rattle.std.proofs.Common.{◌≡◌, ℕ, Bool, true, false, cond, ◌&&◌, List, [], ◌∷◌, ◌++◌, fold, map, Option, Some, None, is_some, T, refl, sym, ap, ap₂, subst, ◌∙◌, append_assoc, append-nil, eqb, eqb-true, eq-eqb, ne_eqb, ltb, ltb-true, ◌<◌, arith}
 use Rattle.std.proofs.lemmas.Bool.{eqb-false, cond-true, cond-false}
 use Rattle.std.proofs.lemmas.List.{map-append}
 use Rattle.std.proofs.lemmas.List.Concat.{flat_map-append}
@@ -39,7 +39,7 @@ use Rattle.mq_route.specs.Laws.{RoutingLaws, for_client}
 use Rattle.mq_route.proofs.Lines.{grown, upper, conn_in, up_is, up_map, names_changed, ups_changed}
 use Rattle.mq_route.proofs.Uppers.{IsIdle, unless_is, upper_risen, upper_opened, upper_without}
 use Rattle.mq_route.proofs.Changes.{Anywhere, anywhere, Freely, freely, Debt, owes, nothing, Everywhere, Inner, sent_where, Outer, Sound, closing, rising, names_grown, ups_grown, upper_shut}
-use Rattle.mq_route.proofs.Steps.{comes_both, holding_both, ticks_both, ended_both}
+use Rattle.mq_route.proofs.Steps.{comes_both, holding_both, tick_both, ended_both}
 use Rattle.mq_route.proofs.Events.{sound_new, ended_idle, emptied, emptied_names, emptied_ups}
 use Rattle.mq_route.proofs.Missing.{settled_is, none_run}
 use Rattle.mq_route.proofs.Output.{sound_event}
@@ -259,11 +259,12 @@ module _ (store : StoreLaws) where
 
     pub inner : Inner Everywhere Tells
     inner = record {
-      put = λ k ps o w own a. put_tells k ps o w a;
+      put = λ k ps o w own plain a. put_tells k ps o w a;
       moves = λ key e o w alike a. a;
+      marks = λ key now o w a. a;
       took = λ key m t n w a. took_tells key m w a;
       willed = λ key m w a. willed_tells key m w a;
-      placed = λ key m ps due t n w a.
+      placed = λ key m ps due t n w copy a.
           let to = up_on key w.hub.connections in
           placed_tells key m due (put_where to ps w) (sent_where Tells put_tells to ps (owes ((key, m) ∷ due) t n) w a);
       missed = λ key m due t n w is a. missed_tells key m due w a;
@@ -344,7 +345,7 @@ module _ (store : StoreLaws) where
       drops = λ k why key terms last_activity fits w near stage m has short a. dropped_tells key (closing k why key terms w) a;
       removes = λ key w s none a. removes_tells key w a;
       begins = λ client w s a. begins_tells client w a;
-      rises = λ k key terms last_activity move present w own s known fresh none there up clean received a. rises_tells k key terms last_activity move present w s known (subst IsIdle (sym fresh) (λ c. refl)) none a;
+      rises = λ k key terms last_activity move present w own s known fresh none there up clean received plain a. rises_tells k key terms last_activity move present w s known (subst IsIdle (sym fresh) (λ c. refl)) none a;
     }
 
   -- ---- events
@@ -376,7 +377,7 @@ module _ (store : StoreLaws) where
       acted log h r w (acts_in _ _ d.2)
       (subst (λ (w : Work). Agrees (log ++ w.did) w.hub []) (sym d.1) (looks [] (log ++ v.did) v.hub (ended k d.0 h).hub [] (lines_as [] v.hub (without_connection k v.hub.connections) same) end.1))
   tells_event log h (Tick now) r w right d s a =
-      let end = ticks_both (Tells log) Freely Anywhere (inner log) (outer log) freely anywhere (λ fits w. tt) tt h.config.connect_within (max h.clock now) h.connections (begin (told now h)) w d.0 (s, starts log h a) in
+      let end = tick_both (Tells log) Freely Anywhere (inner log) (outer log) freely anywhere (λ fits w. tt) tt (told now h) w d.0 (s, starts log h a) in
       acted log h r w (acts_in _ _ d.1) end.1
   tells_event log h (Collect k) r w right d s a =
       let same : (c : ℕ) → up_on c (collected k h).connections ≡ up_on c h.connections = λ c. up_map (changed emptied k) (names_changed emptied k emptied_names) (ups_changed emptied k emptied_ups) c h.connections in
@@ -393,12 +394,12 @@ module _ (store : StoreLaws) where
   laws = record {
     settled_is_routed = settles;
     nothing_missed = misses;
-    placed_is_routed = λ config closes es h f c. sym (settled_is c (acts_of es) (misses config closes es h f c)) ∙ settles config es h f c;
+    placed_is_routed = λ config closes unlimited es h f c. sym (settled_is c (acts_of es) (misses config closes unlimited es h f c)) ∙ settles config es h f c;
     due_is_routed = λ config es h f c m. let a = tells_run es [] (new_hub config) h f (sound_new config) (λ c. refl, λ c. refl) in due_is h c m ∙ ap (λ (s : Seen). copies_for c s m) (sym (a.0 c));
   }
     where
       settles : (config : HubConfig) (es : List Episode) (h : HubState) → Follows (new_hub config) es h → (c : ℕ) → settled c (acts_of es) ≡ routed c (acts_of es)
       settles config es h f c = let a = tells_run es [] (new_hub config) h f (sound_new config) (λ c. refl, λ c. refl) in sym (a.1 c ∙ append-nil (settled c (acts_of es)))
 
-      misses : (config : HubConfig) → config.when_full ≡ ClosePublisher → (es : List Episode) (h : HubState) → Follows (new_hub config) es h → (c : ℕ) → missed c (acts_of es) ≡ []
-      misses config closes es h f c = none_run config (ap drops_copies closes) es (new_hub config) h f (sound_new config) refl c
+      misses : (config : HubConfig) → config.when_full ≡ ClosePublisher → config.most_waiting ≡ None → (es : List Episode) (h : HubState) → Follows (new_hub config) es h → (c : ℕ) → missed c (acts_of es) ≡ []
+      misses config closes unlimited es h f c = none_run config (ap drops_copies closes) unlimited es (new_hub config) h f (sound_new config) refl c

@@ -1,9 +1,9 @@
 -- Changes of the sessions, and lookups after them.
-use Rattle.std.proofs.Common.{◌≡◌, ℕ, Bool, true, false, not, cond, List, [], ◌∷◌, ◌++◌, Some, refl, sym, ap, subst, ◌∙◌, eqb, eqb-true, eq-eqb, true≢false}
+use Rattle.std.proofs.Common.{◌≡◌, ℕ, Bool, true, false, not, cond, List, [], ◌∷◌, ◌++◌, Option, Some, refl, sym, ap, subst, ◌∙◌, eqb, eqb-true, eq-eqb, true≢false}
 use Rattle.std.proofs.lemmas.Bool.{cond_both, cond-true, cond-false}
 use Rattle.std.specs.Str.{bytes_eq}
 use Rattle.mq_end.specs.End.{End}
-use Rattle.mq_route.specs.Hub.{HubSession, no_end, end_of, ending_in, with_end, without_session, key_of}
+use Rattle.mq_route.specs.Hub.{HubSession, no_end, end_of, ending_in, with_end, is_session, leaving, with_left, without_session, key_of}
 
 -- there is a session of this key
 abbrev pub has : ℕ → List HubSession → Bool
@@ -81,6 +81,28 @@ each_with P key e ss all new c = go (has key ss) refl
     go : (there : Bool) → has key ss ≡ there → P c (has c (with_end key e ss)) (end_of c (with_end key e ss))
     go true t = each_there P key e ss t (new t) (λ d k. all d) c
     go false t = subst (λ (l : List HubSession). P c (has c l) (end_of c l)) (sym (end_with_none key e ss t)) (all c)
+
+-- ---- a session stores the time of a disconnect
+
+key_stays : (key : Option ℕ) (now : ℕ) (s : HubSession) → (leaving key now s).key ≡ s.key
+key_stays key now s = cond_both (is_session key s) (record s { left = now }) s (λ (t : HubSession). t.key ≡ s.key) (λ h. refl) (λ h. refl)
+
+end_stays : (key : Option ℕ) (now : ℕ) (s : HubSession) → (leaving key now s).end ≡ s.end
+end_stays key now s = cond_both (is_session key s) (record s { left = now }) s (λ (t : HubSession). t.end ≡ s.end) (λ h. refl) (λ h. refl)
+
+pub has_left : (key : Option ℕ) (now c : ℕ) (ss : List HubSession) → has c (with_left key now ss) ≡ has c ss
+has_left key now c [] = refl
+has_left key now c (s ∷ ss) = λ i. cond (eqb (key_stays key now s i) c) true (has_left key now c ss i)
+
+pub end_left : (key : Option ℕ) (now c : ℕ) (ss : List HubSession) → end_of c (with_left key now ss) ≡ end_of c ss
+end_left key now c [] = refl
+end_left key now c (s ∷ ss) = λ i. cond (eqb (key_stays key now s i) c) (end_stays key now s i) (end_left key now c ss i)
+
+-- A property of each client, of whether it has a session, and of its end stays.
+pub each_left : (P : ℕ → Bool → End → Type 0) (key : Option ℕ) (now : ℕ) (ss : List HubSession) → ((c : ℕ) → P c (has c ss) (end_of c ss))
+    → (c : ℕ) → P c (has c (with_left key now ss)) (end_of c (with_left key now ss))
+each_left P key now ss all c =
+    subst (λ (b : Bool). P c b (end_of c (with_left key now ss))) (sym (has_left key now c ss)) (subst (P c (has c ss)) (sym (end_left key now c ss)) (all c))
 
 -- ---- a session is removed
 

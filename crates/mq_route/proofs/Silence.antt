@@ -16,13 +16,13 @@ use Rattle.mq_route.specs.declared.connection_state.ConnectionState.{ConnectionS
 use Rattle.mq_route.specs.declared.connection_state.ConnectionState.TheVariants.{AwaitingConnect, ConnectedAs, Closed}
 use Rattle.mq_route.specs.declared.connection_state.ConnectionTerms.{ConnectionTerms}
 use Rattle.mq_route.specs.Hub.{HubState, HubConnection, new_hub, stage_of, is_open, held_on, up_on, end_of, with_end}
-use Rattle.mq_route.specs.Work.{Work, begin, said, with_sessions, staged, shut, put_on, put_where, does, remove, remove_if, will_after, leaves_behind, close}
+use Rattle.mq_route.specs.Work.{Work, begin, said, with_sessions, staged, shut, put_on, put_where, does, remove, remove_if, will_after, leaves_behind, shut_down, close}
 use Rattle.mq_route.specs.Arrives.{new_session}
-use Rattle.mq_route.specs.Step.{holding, Ticks, Done, InTime, Late, has_passed, late_reason, Does, told}
+use Rattle.mq_route.specs.Step.{holding, Ticks, Done, InTime, Late, has_passed, late_reason, Does, expire, told}
 use Rattle.mq_route.specs.Silent.{if_silent, silent_by, silent_closes, awaits_connect, silent, due_closes, SilentLaws}
 use Rattle.mq_route.proofs.Changes.{Anywhere, anywhere, Debt, owes, nothing, Everywhere, Inner, Sends, sent_where, Outer, Ways, Sound, closing, rising}
 use Rattle.mq_route.proofs.Walk.{last_will_keeps}
-use Rattle.mq_route.proofs.Steps.{comes_both, holding_both, ended_both}
+use Rattle.mq_route.proofs.Steps.{comes_both, holding_both, expire_both, ended_both}
 use Rattle.mq_route.proofs.Events.{sound_new}
 use Rattle.mq_route.proofs.Output.{sound_run}
 
@@ -49,11 +49,12 @@ module _ (L : List Conn) where
   inner : Inner Everywhere Few
   unfolding silent_by
   inner = record {
-    put = λ k ps o w own r. put_few k ps o w r;
+    put = λ k ps o w own plain r. put_few k ps o w r;
     moves = λ key e o w alike r. r;
+    marks = λ key now o w r. r;
     took = λ key m t n w r. few_more w.did (acts.Took key m) refl r;
     willed = λ key m w r. few_more w.did (acts.Will key m) refl r;
-    placed = λ key m ps c t n w r.
+    placed = λ key m ps c t n w copy r.
         let v = put_where (up_on key w.hub.connections) ps w in
         few_more v.did (acts.Placed key m) refl (sent_where Few put_few (up_on key w.hub.connections) ps (owes ((key, m) ∷ c) t n) w r);
     missed = λ key m c t n w is r. few_more w.did (acts.Missed key m) refl r;
@@ -101,7 +102,7 @@ module _ (L : List Conn) where
     drops = λ k why key terms last_activity fits w near stage m has short r. drops_few key (closing k why key terms w) r;
     removes = λ key w s none r. removes_few key w r;
     begins = λ client w s r. begins_few client w r;
-    rises = λ k key terms last_activity move present w own s known free none there up clean received r. rises_few k key terms last_activity move present w r;
+    rises = λ k key terms last_activity move present w own s known free none there up clean received plain r. rises_few k key terms last_activity move present w r;
   }
 
   ways : Ways May
@@ -118,7 +119,7 @@ module _ (L : List Conn) where
 
 -- a close adds its connection, if this is its reason
 closed : (k : Conn) (why : HubClose) (fits : Bool) (w : Work) → silent_closes (close k why fits w).did ≡ silent_closes w.did ++ if_silent why k
-unfolding close silent_by
+unfolding close shut_down silent_by
 closed k why fits w =
     left (silent_closes w.did ++ if_silent why k) why fits (stage_of k w.hub.connections) (said (acts.Closed k why) (shut k w)) (more w.did (acts.Closed k why))
 
@@ -170,7 +171,10 @@ event h (Bytes k piece) r w d s =
 event h (Ended k) r w d s =
     ap (λ (w : Work). silent_closes w.did) d.1
     ∙ (ended_both (Few []) (May []) Anywhere (inner []) (outer []) (ways []) anywhere k (is_open (stage_of k h.connections)) d.0 (begin h) tt (s, refl)).1
-event h (Tick now) r w d s = ticks h.config.connect_within (max h.clock now) h.connections (begin (told now h)) w d.0
+event h (Tick now) r w d s =
+    ticks h.config.connect_within (max h.clock now) h.connections (expire (told now h)) w d.0
+    ∙ ap (λ (l : List Conn). l ++ silent h.config.connect_within (max h.clock now) h.connections)
+    (expire_both (Few []) (May []) Anywhere (inner []) (outer []) (ways []) anywhere (told now h) (s, refl)).1
 event h (Collect k) r w d s = ap (λ (w : Work). silent_closes w.did) d.0
 
 pub laws : SilentLaws

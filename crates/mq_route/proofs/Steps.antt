@@ -1,5 +1,5 @@
 -- Properties that packets, opened and ended connections, and ticks keep.
-use Rattle.std.proofs.Common.{◌≡◌, ℕ, Bool, true, false, not, ◌&&◌, cond, List, [], ◌∷◌, ◌++◌, length, Option, Some, None, refl, sym, ap, subst, ◌∙◌, eqb, eq-eqb, true≢false, le_refl}
+use Rattle.std.proofs.Common.{◌≡◌, ℕ, Bool, true, false, not, ◌&&◌, cond, List, [], ◌∷◌, ◌++◌, length, map, filter, Option, Some, None, is_some, refl, sym, ap, subst, ◌∙◌, eqb, eq-eqb, true≢false, le_refl}
 use Rattle.std.proofs.lemmas.Bool.{cond-true, cond-false, cond_both, false_from_ne_true}
 use Rattle.std.specs.Option.{option_or}
 use Rattle.mq_packet.specs.declared.connack.ConnAck.TheVariants as connacks
@@ -16,7 +16,7 @@ use Rattle.mq_end.specs.declared.reason.CloseReason.TheVariants as reasons
 use Rattle.mq_end.specs.declared.state.State.TheVariants.{Connected}
 use Rattle.mq_end.specs.End.{End, renewed}
 use Rattle.mq_end.specs.KeepAlive.{is_late}
-use Rattle.mq_end.specs.Server.{server_gets}
+use Rattle.mq_end.specs.Server.{opens, server_gets}
 use Rattle.mq_route.specs.declared.act.Act.TheVariants as acts
 use Rattle.mq_route.specs.declared.conn.Conn.{Conn}
 use Rattle.mq_route.specs.declared.close.HubClose.{HubClose}
@@ -25,15 +25,15 @@ use Rattle.mq_route.specs.declared.connection_state.ConnectionState.{ConnectionS
 use Rattle.mq_route.specs.declared.connection_state.ConnectionState.TheVariants.{AwaitingConnect, ConnectedAs, Closed}
 use Rattle.mq_route.specs.declared.connection_state.ConnectionTerms.{ConnectionTerms}
 use Rattle.mq_route.specs.Routed.{same_conn}
-use Rattle.mq_route.specs.Hub.{HubState, HubSession, HubConnection, new_end, no_end, stage_of, with_connection, is_open, key_on, is_clean, is_for, up_on, end_of, key_of}
+use Rattle.mq_route.specs.Hub.{HubState, HubSession, HubConnection, new_end, no_end, stage_of, with_connection, is_open, key_on, is_clean, is_for, up_on, end_of, end_on, key_of}
 use Rattle.mq_route.specs.Welcome.{client_of, refusal, refusal_by_tables, is_unavailable, ends_on}
-use Rattle.mq_route.specs.Work.{Work, said, with_connections, staged, shut, put_on, does, have_room, remove, will_after, leaves_behind, close}
+use Rattle.mq_route.specs.Work.{Work, begin, said, with_connections, staged, shut, put_on, does, have_room, remove, will_after, leaves_behind, shut_down, close}
 use Rattle.mq_route.specs.Arrives.{Growth, due, answers, answers_all, replies, greeting, terms_of, resume_session, new_session, start_session, take_over, goes_on, accept_connect, on_connect, on_first_packet, dispatch_packet, touched, touched_on, arrives, noted, takes, closes_by, broken, on_malformed}
-use Rattle.mq_route.specs.Step.{holding, Comes, Arrives, Waits, Breaks, Starves, LetsGo, Ticks, Done, InTime, Late, has_passed, late_reason, ended_open}
+use Rattle.mq_route.specs.Step.{holding, Comes, Arrives, Waits, Breaks, Starves, LetsGo, Ticks, Done, InTime, Late, has_passed, late_reason, is_expired, expired_keys, remove_all, expire, ended_open}
 use Rattle.mq_route.proofs.Lines.{one_conn, upper, up_is, upper_none, conn_in, Mild, stage_here, fresh_known}
 use Rattle.mq_route.proofs.Uppers.{IsIdle, unless, upper_at, upper_stage}
 use Rattle.mq_route.proofs.Sessions.{has, has_new, end_new, key_there}
-use Rattle.mq_route.proofs.Ends.{stays_up, greets}
+use Rattle.mq_route.proofs.Ends.{AreAnswers, faulted_answers, gets_answers, stays_up, greets}
 use Rattle.mq_route.proofs.Changes.{Debt, owes, nothing, Inner, Outer, Ways, Nearby, Sound, closing, not_up, is_tied, is_idle, sound_inner, sound_mild, sound_holding, sound_gets, sound_shuts, sound_closes, sound_removes, sound_begins, sound_rises, upper_shut, unless_itself}
 use Rattle.mq_route.proofs.Walk.{last_will_keeps, answers_all_keeps}
 use Rattle.mq_route.proofs.Frames.{stage_firm, upper_firm, lines_inner, lines_closed, closed_shut, closed_other, has_closed}
@@ -91,11 +91,12 @@ module _ {IsOwn : Conn → Type 0} (R : Debt → Work → Type 0) (May : HubClos
 
   pub both : Inner IsOwn Both
   both = record {
-    put = λ k ps o w own h. (sound.put k ps o w own h.0, inner.put k ps o w own h.1);
+    put = λ k ps o w own plain h. (sound.put k ps o w own plain h.0, inner.put k ps o w own plain h.1);
     moves = λ key e o w alike h. (sound.moves key e o w alike h.0, inner.moves key e o w alike h.1);
+    marks = λ key now o w h. (sound.marks key now o w h.0, inner.marks key now o w h.1);
     took = λ key m t n w h. (h.0, inner.took key m t n w h.1);
     willed = λ key m w h. (h.0, inner.willed key m w h.1);
-    placed = λ key m ps c t n w h. (sound.placed key m ps c t n w h.0, inner.placed key m ps c t n w h.1);
+    placed = λ key m ps c t n w copy h. (sound.placed key m ps c t n w copy h.0, inner.placed key m ps c t n w copy h.1);
     missed = λ key m c t n w is h. (h.0, inner.missed key m c t n w is h.1);
     subscribed = λ key f q c t n w h. (h.0, inner.subscribed key f q c t n w h.1);
     unsubscribed = λ key f o w h. (h.0, inner.unsubscribed key f o w h.1);
@@ -120,8 +121,10 @@ module _ {IsOwn : Conn → Type 0} (R : Debt → Work → Type 0) (May : HubClos
       (sound_shuts k w h.0 free, outer.shuts k why w may h.0 free h.1)
 
   pub close_both : (k : Conn) (why : HubClose) (fits : Bool) (w : Work) → Near fits w → May why → Both nothing w → Both nothing (close k why fits w)
-  unfolding close
-  close_both k why fits w near may h = leaves_both k why fits (stage_of k w.hub.connections) w near may refl h
+  unfolding close shut_down
+  close_both k why fits w near may h =
+      both.marks (key_on (stage_of k w.hub.connections)) w.hub.clock nothing (shut_down k why fits w)
+      (leaves_both k why fits (stage_of k w.hub.connections) w near may refl h)
 
   -- ---- a packet on a connected connection
 
@@ -166,13 +169,13 @@ module _ {IsOwn : Conn → Type 0} (R : Debt → Work → Type 0) (May : HubClos
         let Stays : Debt → Work → Type 0 = λ o w. stage_of k w.hub.connections ≡ ConnectedAs key terms last_activity in
         let still = lines_inner (stage_of k) (stage_firm k) (ConnectedAs key terms last_activity) in
         after_open k key terms last_activity p (answers_all k key r.happenings (does key (server_gets p) w))
-        (answers_all_keeps Stays still key k r.happenings ((key, p) ∷ []) (server_gets p) w g.told (λ j up. tt) stage)
-        (answers_all_keeps Both both key k r.happenings ((key, p) ∷ []) (server_gets p) w g.told is_home
+        (answers_all_keeps Stays still key k r.happenings ((key, p) ∷ []) (server_gets p) w g.told (λ j up. tt) (gets_answers p e) stage)
+        (answers_all_keeps Both both key k r.happenings ((key, p) ∷ []) (server_gets p) w g.told is_home (gets_answers p e)
         (sound_gets key r.end w g.state g.clean h.0, outer.gets key p w h.0 up_tied.0 up_tied.1 g h.1))
 
     after_replies : (c : Option CloseReason) → (server_gets p e).close ≡ c → After (Some key) k p (replies k key (server_gets p) c fits w)
     unfolding replies
-    after_replies (Some reason) is = after_closed (Some key) k p (Own reason) fits (put_on k (server_gets p e).out w) (nearby.put fits k (server_gets p e).out w near) (ways.own reason) (both.put k (server_gets p e).out nothing w own h)
+    after_replies (Some reason) is = after_closed (Some key) k p (Own reason) fits (put_on k (server_gets p e).out w) (nearby.put fits k (server_gets p e).out w near) (ways.own reason) (both.put k (server_gets p e).out nothing w own (gets_answers p e) h)
     after_replies None is =
         cond_both (have_room (due key w.hub (server_gets p e).happenings) w.hub) (answers_all k key (server_gets p e).happenings (does key (server_gets p) w)) (close k TargetFull fits w) (After (Some key) k p)
         (λ room. after_gets is) (λ short. after_closed (Some key) k p TargetFull fits w near (full short) h)
@@ -190,14 +193,14 @@ module _ {IsOwn : Conn → Type 0} (R : Debt → Work → Type 0) (May : HubClos
       let free : IsIdle (stage_of k w.hub.connections) = subst IsIdle (sym fresh) (λ c. refl) in
       subst (λ (told : List Happening). Both nothing (answers_all k key told (does key (greeting c) (staged k (ConnectedAs key (terms_of c) now) w)))) (sym g.told) (
         sound_rises k key (terms_of c) now (greeting c) g.present w h.0 known free none there g.state g.clean,
-        outer.rises k key (terms_of c) now (greeting c) g.present w own h.0 known fresh none there g.state g.clean g.received h.1,
+        outer.rises k key (terms_of c) now (greeting c) g.present w own h.0 known fresh none there g.state g.clean g.received (gets_answers (packets.Connect c) (opens e).end) h.1,
       )
 
   greet_new_both : (k : Conn) (c : Connect) (client : List ℕ) (w : Work) → IsOwn k → stage_of k w.hub.connections ≡ AwaitingConnect → (not c.clean_session && eqb (length c.client_id) 0) ≡ false → Both nothing w → Both nothing (start_session k c client w)
   unfolding new_session
   greet_new_both k c client w own fresh ok h =
       let n = w.hub.next_key in
-      let session : HubSession = record { client = client; key = n; end = new_end w.hub.config } in
+      let session : HubSession = record { client = client; key = n; end = new_end w.hub.config; left = w.hub.clock } in
       let none = h.0.keyless n (le_refl n) in
       let itself : eqb n n ≡ true = eq-eqb n n refl in
       let is_new : end_of n (w.hub.sessions ++ session ∷ []) ≡ new_end w.hub.config =
@@ -240,7 +243,7 @@ module _ {IsOwn : Conn → Type 0} (R : Debt → Work → Type 0) (May : HubClos
   unfolding on_connect
   welcomes_both k c fits w own near fresh h (Some code) e =
       let out = packets.ConnAck (connacks.Refused code) ∷ [] in
-      close_both k (Own (reasons.Refused code)) fits (put_on k out w) (nearby.put fits k out w near) (ways.own (reasons.Refused code)) (both.put k out nothing w own h)
+      close_both k (Own (reasons.Refused code)) fits (put_on k out w) (nearby.put fits k out w near) (ways.own (reasons.Refused code)) (both.put k out nothing w own refl h)
   welcomes_both k c fits w own near fresh h None e =
       admit_both k c (client_of c w.hub.sessions) fits w own near fresh (accepted c w.hub e) h (key_of (client_of c w.hub.sessions) w.hub.sessions) refl
 
@@ -275,13 +278,16 @@ module _ {IsOwn : Conn → Type 0} (R : Debt → Work → Type 0) (May : HubClos
       let v = arrives k p g w in
       (a.0, outer.noted (noted (key_on (stage_of k w.hub.connections)) (is_open (stage_of k v.hub.connections)) p) v a.1)
 
+  broken_answers : (k : Conn) (fault : DecodeFault) (w : Work) → AreAnswers (broken k fault w).out
+  broken_answers k fault w = faulted_answers fault (end_on (stage_of k w.hub.connections) w.hub.sessions)
+
   pub breaks_both : (k : Conn) (fault : DecodeFault) (fits : Bool) (w : Work) → IsOwn k → Near fits w → Both nothing w → Both nothing (on_malformed k fault fits w)
   unfolding on_malformed
   breaks_both k fault fits w own near h = go (broken k fault w).close
     where
       go : (c : Option CloseReason) → Both nothing (closes_by k c fits (put_on k (broken k fault w).out w))
-      go None = both.put k (broken k fault w).out nothing w own h
-      go (Some reason) = close_both k (Own reason) fits (put_on k (broken k fault w).out w) (nearby.put fits k (broken k fault w).out w near) (ways.own reason) (both.put k (broken k fault w).out nothing w own h)
+      go None = both.put k (broken k fault w).out nothing w own (broken_answers k fault w) h
+      go (Some reason) = close_both k (Own reason) fits (put_on k (broken k fault w).out w) (nearby.put fits k (broken k fault w).out w near) (ways.own reason) (both.put k (broken k fault w).out nothing w own (broken_answers k fault w) h)
 
   -- ---- bytes, ticks, and the end of a connection
 
@@ -294,6 +300,42 @@ module _ {IsOwn : Conn → Type 0} (R : Debt → Work → Type 0) (May : HubClos
 
   pub holding_both : (k : Conn) (b : List ℕ) (w : Work) → (R nothing w → R nothing (holding k b w)) → Both nothing w → Both nothing (holding k b w)
   holding_both k b w holds h = (sound_holding k b w h.0, holds h.1)
+
+  -- sessions of clients that are not connected are removed
+  abbrev AreAway : List ℕ → List HubConnection → Type 0
+  AreAway [] xs = Unit {0}
+  AreAway (key ∷ keys) xs = (upper key xs ≡ None) × AreAway keys xs
+
+  remove_all_both : (keys : List ℕ) (w : Work) → AreAway keys w.hub.connections → Both nothing w → Both nothing (remove_all keys w)
+  unfolding remove
+  remove_all_both [] w away h = h
+  remove_all_both (key ∷ keys) w away h =
+      remove_all_both keys (remove key w) (still_away keys key w away.1) (sound_removes key w h.0 away.0, outer.removes key w h.0 away.0 h.1)
+    where
+      still_away : (keys : List ℕ) (key : ℕ) (w : Work) → AreAway keys w.hub.connections → AreAway keys (remove key w).hub.connections
+      still_away keys key w away = away
+
+  -- the expired ones are
+  expired_away : (h : HubState) (ss : List HubSession) → AreAway (map (λ s. s.key) (filter (is_expired h) ss)) h.connections
+  expired_away h [] = tt
+  expired_away h (s ∷ ss) = go (is_expired h s) refl (expired_away h ss)
+    where
+      first : (a b : Bool) → (a && b) ≡ true → a ≡ true
+      first true b e = refl
+      first false b e = absurd (true≢false (sym e))
+
+      none_on : (o : Option Conn) → not (is_some o) ≡ true → o ≡ None
+      none_on None e = refl
+      none_on (Some k) e = absurd (true≢false (sym e))
+
+      go : (b : Bool) → is_expired h s ≡ b → AreAway (map (λ s. s.key) (filter (is_expired h) ss)) h.connections
+          → AreAway (map (λ s. s.key) (cond b (s ∷ filter (is_expired h) ss) (filter (is_expired h) ss))) h.connections
+      go true is rest = (upper_none s.key h.connections (none_on (up_on s.key h.connections) (first (not (is_some (up_on s.key h.connections))) (has_passed h.config.session_expiry s.left h.clock) is)), rest)
+      go false is rest = rest
+
+  pub expire_both : (h : HubState) → Both nothing (begin h) → Both nothing (expire h)
+  unfolding expire
+  expire_both h start = remove_all_both (expired_keys h) (begin h) (expired_away h h.sessions) start
 
   -- a tick closes connections for two reasons
   may_late : May NoConnect → (within : Option ℕ) (now since : ℕ) (s : ConnectionState) (why : HubClose) → late_reason within now since s ≡ Some why → May why
@@ -316,6 +358,11 @@ module _ {IsOwn : Conn → Type 0} (R : Debt → Work → Type 0) (May : HubClos
   ticks_both near silent within now xs w w2 (Late x ys why fits v v2 late more) h =
       ticks_both near silent within now ys (close x.conn why fits v) v2 more
       (close_both x.conn why fits v (near fits v) (may_late silent within now x.since x.stage why late) h)
+
+  -- a tick
+  pub tick_both : ((fits : Bool) (w : Work) → Near fits w) → May NoConnect → (h : HubState) (w : Work) → Ticks h.config.connect_within h.clock h.connections (expire h) w
+      → Both nothing (begin h) → Both nothing w
+  tick_both near silent h w t start = ticks_both near silent h.config.connect_within h.clock h.connections (expire h) w t (expire_both h start)
 
   pub ended_both : (k : Conn) (alive fits : Bool) (w : Work) → Near fits w → Both nothing w → Both nothing (ended_open k alive fits w)
   ended_both k true fits w near h = close_both k PeerEnded fits w near ways.peer h

@@ -1,5 +1,5 @@
 -- The messages taken from a client are those that a receiver's book delivers from its packets.
-use Rattle.std.proofs.Common.{◌≡◌, ℕ, ◌≤◌, Bool, true, false, cond, List, [], ◌∷◌, ◌++◌, max, None, refl, sym, ap, ap₂, subst, subst₂, ◌∙◌, true≢false, append_assoc, append-nil, eqb, eqb-true, eq-eqb, le_refl, arith}
+use Rattle.std.proofs.Common.{◌≡◌, ℕ, ◌≤◌, Bool, true, false, cond, List, [], ◌∷◌, ◌++◌, Option, None, refl, sym, ap, ap₂, subst, subst₂, ◌∙◌, true≢false, append_assoc, append-nil, eqb, eqb-true, eq-eqb, le_refl, arith}
 use Rattle.std.proofs.lemmas.Bool.{cond-true, cond-false, false_from_ne_true}
 use Rattle.std.proofs.lemmas.List.Concat.{flat_map-append}
 use Rattle.mq_packet.specs.declared.message.Message.{Message}
@@ -17,7 +17,7 @@ use Rattle.mq_route.specs.declared.reply.HubReply.{HubReply}
 use Rattle.mq_route.specs.declared.connection_state.ConnectionState.TheVariants.{ConnectedAs}
 use Rattle.mq_route.specs.declared.connection_state.ConnectionTerms.{ConnectionTerms}
 use Rattle.mq_route.specs.Routed.{taken_by, taken}
-use Rattle.mq_route.specs.Hub.{HubState, HubSession, new_hub, new_end, no_end, stage_of, without_session, is_open, held_on, up_on, end_of, with_end}
+use Rattle.mq_route.specs.Hub.{HubState, HubSession, new_hub, new_end, no_end, stage_of, without_session, is_open, held_on, up_on, end_of, with_end, with_left}
 use Rattle.mq_route.specs.Work.{Work, begin, said, with_sessions, staged, shut, put_on, put_where, does, remove, remove_if}
 use Rattle.mq_route.specs.Arrives.{new_session}
 use Rattle.mq_route.specs.Step.{Does, event_refusal, opened, ended, collected, told, holding}
@@ -25,10 +25,10 @@ use Rattle.mq_route.specs.Runs.{Episode, Follows, acts_of, came_in}
 use Rattle.mq_route.specs.Taken.{handed_by, book_after, handed_from, of_client}
 use Rattle.mq_route.specs.Laws.{TakingLaws, for_client}
 use Rattle.mq_route.proofs.Uppers.{upper_at}
-use Rattle.mq_route.proofs.Sessions.{has, has_with, has_without, end_without, end_with_other, each_there, each_with, each_new}
+use Rattle.mq_route.proofs.Sessions.{has, has_with, has_without, end_without, end_with_other, each_left, each_there, each_with, each_new}
 use Rattle.mq_route.proofs.Ends.{GoesOn, takings}
 use Rattle.mq_route.proofs.Changes.{Anywhere, anywhere, Freely, freely, Debt, owes, nothing, Everywhere, Inner, sent_where, Outer, Sound, is_tied, closing, rising}
-use Rattle.mq_route.proofs.Steps.{comes_both, holding_both, ticks_both, ended_both}
+use Rattle.mq_route.proofs.Steps.{comes_both, holding_both, tick_both, ended_both}
 use Rattle.mq_route.proofs.Events.{sound_new}
 use Rattle.mq_route.proofs.Output.{sound_event}
 use Rattle.mq_route.proofs.Routing.{for_client-key}
@@ -135,14 +135,23 @@ module _ (log : List Act) (before : List (ℕ × Packet)) where
     r.2,
   )
 
+  -- the time of a disconnect
+  marks_hands : (key : Option ℕ) (now : ℕ) (l : List (ℕ × Packet)) (t : List (ℕ × Message)) (a : List Act) (h : HubState) → HandsAt a l t h → HandsAt a l t (record h { sessions = with_left key now h.sessions })
+  marks_hands key now l t a h r = (
+    r.0,
+    each_left (λ c there e. there ≡ true → e.received ≡ book_from none_received (of_client c l)) key now h.sessions r.1,
+    r.2,
+  )
+
   pub inner : Inner Everywhere Hands
   unfolding taken_by
   inner = record {
-    put = λ k ps o w own r. put_hands k ps o w r;
+    put = λ k ps o w own plain r. put_hands k ps o w r;
     moves = λ key e o w alike r. ends_hands key e ((before ++ w.came) ++ o.came) o.taken (log ++ w.did) w.hub alike.2 r;
+    marks = λ key now o w r. marks_hands key now ((before ++ w.came) ++ o.came) o.taken (log ++ w.did) w.hub r;
     took = λ key m t n w r. took_hands key m t ((before ++ w.came) ++ n) w.did w.hub r;
     willed = λ key m w r. idle_act (acts.Will key m) ((before ++ w.came) ++ []) [] w.did w.hub (λ c. refl) r;
-    placed = λ key m ps d t n w r.
+    placed = λ key m ps d t n w copy r.
         let v = put_where (up_on key w.hub.connections) ps w in
         idle_act (acts.Placed key m) ((before ++ v.came) ++ n) t v.did v.hub (λ c. refl) (sent_where Hands put_hands (up_on key w.hub.connections) ps (owes ((key, m) ∷ d) t n) w r);
     missed = λ key m d t n w is r. idle_act (acts.Missed key m) ((before ++ w.came) ++ n) t w.did w.hub (λ c. refl) r;
@@ -246,7 +255,7 @@ module _ (log : List Act) (before : List (ℕ × Packet)) where
   unfolding new_session
   begins_hands client w s r =
       let n = w.hub.next_key in
-      let session : HubSession = record { client = client; key = n; end = new_end w.hub.config } in
+      let session : HubSession = record { client = client; key = n; end = new_end w.hub.config; left = w.hub.clock } in
       let xs = (before ++ w.came) ++ [] in (
         r.0,
         each_new (λ c there e. there ≡ true → e.received ≡ book_from none_received (of_client c xs)) session w.hub.sessions (s.keyless n (le_refl n)) r.1
@@ -276,7 +285,7 @@ module _ (log : List Act) (before : List (ℕ × Packet)) where
     drops = λ k why key terms last_activity fits w near stage m has short r. drops_hands key (closing k why key terms w) r;
     removes = λ key w s none r. removes_hands key w r;
     begins = begins_hands;
-    rises = λ k key terms last_activity move present w own s known free none there up clean received r. rises_hands k key terms last_activity move present w received r;
+    rises = λ k key terms last_activity move present w own s known free none there up clean received plain r. rises_hands k key terms last_activity move present w received r;
   }
 
 -- ---- events
@@ -308,7 +317,7 @@ hands_event log before h (Ended k) r w right d s a =
     let end = ended_both (Hands log before) Freely Anywhere (inner log before) (outer log before) freely anywhere k (is_open (stage_of k h.connections)) d.0 (begin h) tt (s, starts log before h a) in
     subst (λ (w : Work). r.acts ≡ w.did → Kept (log ++ r.acts) (before ++ w.came) w.hub) (sym d.1) (λ same. ends log before r (ended k d.0 h) same end.1) (acts_in _ _ d.2)
 hands_event log before h (Tick now) r w right d s a =
-    let end = ticks_both (Hands log before) Freely Anywhere (inner log before) (outer log before) freely anywhere (λ fits w. tt) tt h.config.connect_within (max h.clock now) h.connections (begin (told now h)) w d.0 (s, starts log before h a) in
+    let end = tick_both (Hands log before) Freely Anywhere (inner log before) (outer log before) freely anywhere (λ fits w. tt) tt (told now h) w d.0 (s, starts log before h a) in
     ends log before r w (acts_in _ _ d.1) end.1
 hands_event log before h (Collect k) r w right d s a =
     subst (λ (w : Work). r.acts ≡ w.did → Kept (log ++ r.acts) (before ++ w.came) w.hub) (sym d.0) (λ same. ends log before r (begin (collected k h)) same (starts log before h a))

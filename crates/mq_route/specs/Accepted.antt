@@ -1,5 +1,5 @@
 -- Each copy of QoS 1 or 2 that is not missed is accepted by a sender's book (2.3.1, 4.3).
-use Rattle.std.specs.Prelude.{◌≡◌, ℕ, ◌≤◌, ◌==◌, Bool, true, false, ◌&&◌, List, [], ◌∷◌, ◌++◌, max, Option, Some, None, if◌then◌else◌}
+use Rattle.std.specs.Prelude.{◌≡◌, ℕ, ◌≤◌, ◌==◌, Bool, true, false, not, ◌&&◌, List, [], ◌∷◌, ◌++◌, max, Option, Some, None, if◌then◌else◌}
 use Rattle.std.specs.List.{list_any}
 use Rattle.mq_packet.specs.declared.connack.ConnAck.TheVariants as connacks
 use Rattle.mq_packet.specs.declared.connack.RefusalCode.{RefusalCode}
@@ -10,6 +10,7 @@ use Rattle.mq_packet.specs.declared.packet.Packet.TheVariants as packets
 use Rattle.mq_decode.specs.Limits.{Bounds}
 use Rattle.mq_flow.specs.Next.{next_identifier}
 use Rattle.mq_flow.specs.Sender.{IsFirstFree, is_full, accept}
+use Rattle.mq_flow.specs.Stored.{message_bytes, stored_bytes}
 use Rattle.mq_end.specs.declared.happening.Happening.{Happening}
 use Rattle.mq_end.specs.declared.happening.Happening.TheVariants as happens
 use Rattle.mq_end.specs.declared.reason.CloseReason.{CloseReason}
@@ -34,9 +35,9 @@ use Rattle.mq_route.specs.Copies.{will_message, kept}
 use Rattle.mq_route.specs.Routed.{marked}
 use Rattle.mq_route.specs.Hub.{HubState, HubConnection, new_hub, stage_of, is_open, held_on, up_on, key_of, end_of, copies_of}
 use Rattle.mq_route.specs.Welcome.{client_of, refusal}
-use Rattle.mq_route.specs.Work.{Work, begin, said, put_on, does, is_missed, place, have_room, will_after, close, subscribed, retained_copies}
+use Rattle.mq_route.specs.Work.{Work, begin, said, put_on, does, leaves, is_missed, place, have_room, will_after, close, subscribed, retained_copies}
 use Rattle.mq_route.specs.Arrives.{Growth, granted, due, answers, touched_on, takes, broken}
-use Rattle.mq_route.specs.Step.{holding, Comes, Arrives, Waits, Breaks, Starves, LetsGo, Ticks, Done, InTime, Late, Does, event_refusal, told}
+use Rattle.mq_route.specs.Step.{holding, Comes, Arrives, Waits, Breaks, Starves, LetsGo, Ticks, Done, InTime, Late, Does, event_refusal, expire, told}
 use Rattle.mq_route.specs.Runs.{Episode, Follows}
 use Rattle.mq_route.specs.Dropped.{when_over}
 
@@ -48,20 +49,29 @@ pub record Placing : Type 0 where
   pub message : Message
   pub at : Work
 
--- The client has a session, and its book is not full. The next identifier is the first free one
--- after the last assigned identifier (2.3.1). The book accepts the message with this identifier
--- (4.3).
+-- The client has a session, and its book has an identifier free and room for the message's bytes.
+-- The next identifier is the first free one after the last assigned identifier (2.3.1). The book
+-- accepts the message with this identifier (4.3).
 pub record IsAccept (placing : Placing) : Type 0 where
   pub there : list_any (λ s. s.key == placing.key) placing.at.hub.sessions ≡ true
   pub room : is_full placing.at.hub.config.capacity (end_of placing.key placing.at.hub.sessions).book ≡ false
+  pub bytes : leaves placing.at.hub.config.most_stored (stored_bytes (end_of placing.key placing.at.hub.sessions).book) (message_bytes placing.message) ≡ true
   pub first : let e = end_of placing.key placing.at.hub.sessions in IsFirstFree e.last e.book (next_identifier e.last e.book)
   pub accepts : let e = end_of placing.key placing.at.hub.sessions in
       let identifier = next_identifier e.last e.book in
       end_of placing.key (place placing.key placing.message placing.at).hub.sessions ≡ record e { book = accept identifier placing.message (is_up e.state) e.book; last = identifier }
 
--- the client misses the copy: its book is full, and the broker drops such copies
+-- the client misses the copy
 abbrev pub is_miss : Placing → Bool
 is_miss placing = is_missed placing.key placing.message placing.at.hub
+
+-- the client misses the copy, which has QoS 1 or 2
+abbrev pub is_stored_miss : Placing → Bool
+is_stored_miss placing = is_miss placing && has_identifier placing.message.qos
+
+-- the client misses the copy, which has QoS 0
+abbrev pub is_plain_miss : Placing → Bool
+is_plain_miss placing = is_miss placing && not (has_identifier placing.message.qos)
 
 -- each copy of QoS 1 or 2 that is not missed is accepted
 abbrev pub AreAccepts : List Placing → Type 0
@@ -188,7 +198,7 @@ in_step hub (Bytes conn piece) reply work does =
     in_comes hub.config.limits conn (held_on conn hub.connections ++ piece) (holding conn [] (begin hub)) work does.0
 in_step hub (Ended conn) reply work does =
     if is_open (stage_of conn hub.connections) then in_close conn PeerEnded does.0 (begin hub) else []
-in_step hub (Tick now) reply work does = in_ticks hub.config.connect_within (max hub.clock now) hub.connections (begin (told now hub)) work does.0
+in_step hub (Tick now) reply work does = in_ticks hub.config.connect_within (max hub.clock now) hub.connections (expire (told now hub)) work does.0
 in_step hub (Collect conn) reply work does = []
 
 pub record AcceptLaws : Type 0 where
@@ -199,9 +209,17 @@ pub record AcceptLaws : Type 0 where
   -- in each step of a run, each copy of QoS 1 or 2 that is due and not missed is accepted
   pub accepts : (config : HubConfig) → config.capacity ≤ 65535 → (before : List Episode) (hub : HubState) → Follows (new_hub config) before hub
       → (event : HubEvent) (reply : HubReply) (work : Work) → event_refusal event hub ≡ None → (does : Does hub event reply work) → AreAccepts (in_step hub event reply work does)
-  -- under ClosePublisher, no copy is missed
+  -- under ClosePublisher, no copy of QoS 1 or 2 is missed
   pub none_missed : (config : HubConfig) → config.when_full ≡ ClosePublisher → config.capacity ≤ 65535 → (before : List Episode) (hub : HubState) → Follows (new_hub config) before hub
-      → (event : HubEvent) (reply : HubReply) (work : Work) → event_refusal event hub ≡ None → (does : Does hub event reply work) → list_any is_miss (in_step hub event reply work does) ≡ false
+      → (event : HubEvent) (reply : HubReply) (work : Work) → event_refusal event hub ≡ None → (does : Does hub event reply work)
+      → list_any is_stored_miss (in_step hub event reply work does) ≡ false
+  -- without a limit on pending output, no copy of QoS 0 is missed
+  pub none_cut : (config : HubConfig) → config.most_waiting ≡ None → config.capacity ≤ 65535 → (before : List Episode) (hub : HubState) → Follows (new_hub config) before hub
+      → (event : HubEvent) (reply : HubReply) (work : Work) → event_refusal event hub ≡ None → (does : Does hub event reply work)
+      → list_any is_plain_miss (in_step hub event reply work does) ≡ false
+  -- at each time in a run, no client's session stores more bytes than the limit
+  pub stored : (config : HubConfig) (most : ℕ) → config.most_stored ≡ Some most → config.capacity ≤ 65535 → (episodes : List Episode) (hub : HubState) → Follows (new_hub config) episodes hub
+      → (key : ℕ) → stored_bytes (end_of key hub.sessions).book ≤ most
   -- these copies are those that the acts of the step report as placed or missed, in order
   pub marked_are : (config : HubConfig) → config.capacity ≤ 65535 → (before : List Episode) (hub : HubState) → Follows (new_hub config) before hub
       → (event : HubEvent) (reply : HubReply) (work : Work) → event_refusal event hub ≡ None → (does : Does hub event reply work)

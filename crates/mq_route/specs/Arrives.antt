@@ -107,7 +107,7 @@ unfoldable pub new_session : List ℕ → Work → Work
 new_session client work = record work {
   hub = record work.hub {
     next_key = work.hub.next_key + 1;
-    sessions = work.hub.sessions ++ record { client = client; key = work.hub.next_key; end = new_end work.hub.config } ∷ [];
+    sessions = work.hub.sessions ++ record { client = client; key = work.hub.next_key; end = new_end work.hub.config; left = work.hub.clock } ∷ [];
   };
 }
 

@@ -20,7 +20,7 @@ use Rattle.mq_route.specs.Copies.{will_message}
 use Rattle.mq_route.specs.Hub.{HubState, HubConnection, new_hub, stage_of, held_on, end_of, with_end, copies_of}
 use Rattle.mq_route.specs.Work.{Work, begin, said, shut, with_sessions, have_room, remove_if, will_after, close}
 use Rattle.mq_route.specs.Arrives.{takes}
-use Rattle.mq_route.specs.Step.{holding, Comes, Arrives, Waits, Breaks, Starves, LetsGo, Ticks, Done, InTime, Late, Does, event_refusal, told}
+use Rattle.mq_route.specs.Step.{holding, Comes, Arrives, Waits, Breaks, Starves, LetsGo, Ticks, Done, InTime, Late, Does, event_refusal, expire, told}
 use Rattle.mq_route.specs.Runs.{Episode, Follows}
 
 unfoldable pub dropped_by : Act → List ℕ
@@ -85,7 +85,7 @@ IsLosingEvent client hub (Bytes conn piece) reply work does =
     ComesLosing hub.config.when_full client hub.config.limits conn (held_on conn hub.connections ++ piece) (holding conn [] (begin hub)) work does.0
 IsLosingEvent client hub (Ended conn) reply work does = LosesWill hub.config.when_full client does.0 (begin hub)
 IsLosingEvent client hub (Tick now) reply work does =
-    TicksLosing hub.config.when_full client hub.config.connect_within (max hub.clock now) hub.connections (begin (told now hub)) work does.0
+    TicksLosing hub.config.when_full client hub.config.connect_within (max hub.clock now) hub.connections (expire (told now hub)) work does.0
 IsLosingEvent client hub (Collect conn) reply work does = ⊥
 
 pub record WillLaws : Type 0 where

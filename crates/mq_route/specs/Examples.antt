@@ -32,7 +32,7 @@ abbrev pub conn : ℕ → Conn
 conn n = record { worker = 0; nth = n }
 
 abbrev pub config : HubConfig
-config = record { limits = strict 1000; capacity = 10; window = None; max_conns = 10; max_sessions = 10; users = None; hashed_users = None; when_full = ClosePublisher; connect_within = None }
+config = record { limits = strict 1000; capacity = 10; window = None; max_conns = 10; max_sessions = 10; users = None; hashed_users = None; when_full = ClosePublisher; connect_within = None; session_expiry = None; most_stored = None; most_waiting = None }
 
 -- a CONNECT
 abbrev pub hello : List ℕ → Bool → Option Will → Packet
@@ -106,6 +106,9 @@ tight = record {
   hashed_users = None;
   when_full = ClosePublisher;
   connect_within = None;
+  session_expiry = None;
+  most_stored = None;
+  most_waiting = None;
 }
 
 abbrev pub user : List ℕ → Option Will → List ℕ → Packet

@@ -1,12 +1,13 @@
--- A PUBLISH or SUBSCRIBE that needs more packet identifiers than a session has free closes its
--- connection (2.3.1).
-use Rattle.std.specs.Prelude.{◌≡◌, ◌⊎◌, ℕ, ◌-◌, ◌<◌, List, [], ◌∷◌, ◌++◌, length, map, Some, None}
+-- A PUBLISH or SUBSCRIBE for whose messages a session has no room closes its connection: they need
+-- more packet identifiers than it has free (2.3.1), or it may not store their bytes.
+use Rattle.std.specs.Prelude.{◌≡◌, ◌⊎◌, ℕ, ◌-◌, ◌<◌, false, List, [], ◌∷◌, ◌++◌, length, map, sum_by, Some, None, if◌then◌else◌}
 use Rattle.std.specs.List.{flat_map, count_by}
 use Rattle.mq_packet.specs.declared.packet.Packet.{Packet}
 use Rattle.mq_packet.specs.declared.packet.Packet.TheVariants as packets
 use Rattle.mq_packet.specs.declared.message.Message.{Message}
 use Rattle.mq_decode.specs.Limits.{Bounds}
 use Rattle.mq_flow.specs.Sender.{uses}
+use Rattle.mq_flow.specs.Stored.{message_bytes, stored_bytes}
 use Rattle.mq_end.specs.declared.happening.Happening.{Happening}
 use Rattle.mq_end.specs.declared.happening.Happening.TheVariants as happens
 use Rattle.mq_end.specs.Both.{has_identifier}
@@ -23,7 +24,7 @@ use Rattle.mq_route.specs.declared.event.HubEvent.TheVariants.{Opened, Bytes, En
 use Rattle.mq_route.specs.declared.reply.HubReply.{HubReply}
 use Rattle.mq_route.specs.Routed.{seen, routed_from}
 use Rattle.mq_route.specs.Hub.{HubState, HubSession, new_hub, stage_of, held_on, key_on, end_of}
-use Rattle.mq_route.specs.Work.{Work, begin}
+use Rattle.mq_route.specs.Work.{Work, begin, leaves}
 use Rattle.mq_route.specs.Arrives.{Growth, takes}
 use Rattle.mq_route.specs.Step.{holding, Comes, Arrives, Waits, Breaks, Starves, LetsGo, Does, event_refusal}
 use Rattle.mq_route.specs.Runs.{Episode, Follows, acts_of}
@@ -70,15 +71,25 @@ asked key happenings = flat_map (asked_by key) happenings
 abbrev pub identifiers_for : List Message → ℕ
 identifiers_for ms = count_by (λ m. has_identifier m.qos) ms
 
+-- the number of bytes of these messages that a session stores
+abbrev pub bytes_for : List Message → ℕ
+bytes_for ms = sum_by (λ m. if has_identifier m.qos then message_bytes m else 0) ms
+
+-- the session has fewer identifiers free than these messages need (2.3.1), or may not store their
+-- bytes
+abbrev pub IsShortOf : HubConfig → HubSession → List Message → Type 0
+IsShortOf config session ms =
+    (config.capacity - length (uses session.end.book) < identifiers_for ms)
+    ⊎ (leaves config.most_stored (stored_bytes session.end.book) (bytes_for ms) ≡ false)
+
 -- the session is one of these
 abbrev pub IsAmong : HubSession → List HubSession → Type 0
 IsAmong s [] = ⊥
 IsAmong s (t ∷ ts) = (s ≡ t) ⊎ IsAmong s ts
 
--- After these acts, a PUBLISH or SUBSCRIBE arrives on a connected connection and closes it. The
--- messages that it routes to some client need more packet identifiers than the client's session has
--- free (2.3.1, 3.3.5, 3.8.4).
-pub record IsTooMuch (log : List Act) (capacity : ℕ) (conn : Conn) (packet : Packet) (growth : Growth) (work : Work) : Type 0 where
+-- After these acts, a PUBLISH or SUBSCRIBE arrives on a connected connection and closes it. Some
+-- client's session has no room for the messages that it routes to the client (2.3.1, 3.3.5, 3.8.4).
+pub record IsTooMuch (log : List Act) (config : HubConfig) (conn : Conn) (packet : Packet) (growth : Growth) (work : Work) : Type 0 where
   pub key : ℕ
   pub connected : key_on (stage_of conn work.hub.connections) ≡ Some key
   pub kind : IsPublishOrSubscribe packet
@@ -86,25 +97,25 @@ pub record IsTooMuch (log : List Act) (capacity : ℕ) (conn : Conn) (packet : P
   pub exists : IsAmong session work.hub.sessions
   pub short : let now = seen session.key (log ++ work.did) in
       let happenings = (server_gets packet (end_of key work.hub.sessions)).happenings in
-      capacity - length (uses session.end.book) < identifiers_for (routed_from session.key now (asked key happenings))
+      IsShortOf config session (routed_from session.key now (asked key happenings))
   pub none_before : full_closes work.did ≡ []
   pub closes : full_closes (takes conn packet growth work).did ≡ conn ∷ []
 
 -- one of the packets in these bytes is too much
-abbrev pub ComesTooMuch : List Act → ℕ → (limits : Bounds) (conn : Conn) (bytes : List ℕ) (start stop : Work)
+abbrev pub ComesTooMuch : List Act → HubConfig → (limits : Bounds) (conn : Conn) (bytes : List ℕ) (start stop : Work)
     → Comes limits conn bytes start stop → Type 0
-ComesTooMuch log capacity limits conn bytes start stop (Arrives packet first rest growth work last on reads more) =
-    IsTooMuch log capacity conn packet growth work ⊎ ComesTooMuch log capacity limits conn rest (takes conn packet growth work) last more
-ComesTooMuch log capacity limits conn bytes start stop (Waits rest work on pending) = ⊥
-ComesTooMuch log capacity limits conn bytes start stop (Breaks rest fault fits work on faulty) = ⊥
-ComesTooMuch log capacity limits conn bytes start stop (Starves rest fits work on some) = ⊥
-ComesTooMuch log capacity limits conn bytes start stop (LetsGo rest work closed) = ⊥
+ComesTooMuch log config limits conn bytes start stop (Arrives packet first rest growth work last on reads more) =
+    IsTooMuch log config conn packet growth work ⊎ ComesTooMuch log config limits conn rest (takes conn packet growth work) last more
+ComesTooMuch log config limits conn bytes start stop (Waits rest work on pending) = ⊥
+ComesTooMuch log config limits conn bytes start stop (Breaks rest fault fits work on faulty) = ⊥
+ComesTooMuch log config limits conn bytes start stop (Starves rest fits work on some) = ⊥
+ComesTooMuch log config limits conn bytes start stop (LetsGo rest work closed) = ⊥
 
 -- copies without room are not dropped; the event has bytes, one of their packets is too much, and
 -- its connection is the only one that closes for this reason
 abbrev pub IsFullEvent : List Act → (hub : HubState) (event : HubEvent) (reply : HubReply) (work : Work) → Does hub event reply work → Type 0
 IsFullEvent log hub (Bytes conn piece) reply work does = (hub.config.when_full ≡ ClosePublisher) × (full_closes work.did ≡ conn ∷ [])
-    × ComesTooMuch log hub.config.capacity hub.config.limits conn (held_on conn hub.connections ++ piece) (holding conn [] (begin hub)) work does.0
+    × ComesTooMuch log hub.config hub.config.limits conn (held_on conn hub.connections ++ piece) (holding conn [] (begin hub)) work does.0
 IsFullEvent log hub (Opened conn) reply work does = ⊥
 IsFullEvent log hub (Ended conn) reply work does = ⊥
 IsFullEvent log hub (Tick now) reply work does = ⊥

@@ -13,12 +13,14 @@ use Rattle.mq_route.specs.declared.connection_state.ConnectionState.TheVariants.
 use Rattle.mq_route.specs.Copies.{is_hidden_name, copy_by}
 use Rattle.mq_route.specs.Routed.{same_conn}
 
--- A session (3.1.2.4): the client identifier, the key, and the server end, which has the sender's
--- book, the receiver's book and the last assigned packet identifier.
+-- A session (3.1.2.4): the client identifier, the key, the server end, which has the sender's book,
+-- the receiver's book and the last assigned packet identifier, and the time at which the client
+-- last disconnected.
 pub record HubSession : Type 0 where
   pub client : List ℕ
   pub key : ℕ
   pub end : End
+  pub left : ℕ
 
 -- A connection: its name, its state, the bytes of an incomplete packet, the pending output, and the
 -- time at which it was opened.
@@ -127,6 +129,18 @@ ending_in key e s = if s.key == key then record s { end = e } else s
 -- the sessions with one end replaced
 abbrev pub with_end : ℕ → End → List HubSession → List HubSession
 with_end key e ss = map (ending_in key e) ss
+
+-- the session has this key
+abbrev pub is_session : Option ℕ → HubSession → Bool
+is_session None s = false
+is_session (Some key) s = s.key == key
+
+abbrev pub leaving : Option ℕ → ℕ → HubSession → HubSession
+leaving key now s = if is_session key s then record s { left = now } else s
+
+-- the sessions, of which one stores this time as that of its client's last disconnect
+abbrev pub with_left : Option ℕ → ℕ → List HubSession → List HubSession
+with_left key now ss = map (leaving key now) ss
 
 abbrev pub without_session : ℕ → List HubSession → List HubSession
 without_session key ss = filter (λ s. not (s.key == key)) ss

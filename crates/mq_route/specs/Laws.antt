@@ -1,7 +1,9 @@
 -- Laws of every run of a broker.
-use Rattle.std.specs.Prelude.{◌≡◌, ℕ, Bool, true, false, List, [], ◌∷◌, ◌++◌, ◌==◌, if◌then◌else◌}
+use Rattle.std.specs.Prelude.{◌≡◌, ℕ, ◌+◌, ◌≤◌, Bool, true, false, List, [], ◌∷◌, ◌++◌, length, filter, max, Some, None, is_some, ◌==◌, if◌then◌else◌}
 use Rattle.std.specs.List.{list_any}
 use Rattle.mq_packet.specs.declared.message.Message.{Message}
+use Rattle.mq_packet.specs.declared.packet.Packet.{Packet}
+use Rattle.mq_packet.specs.declared.packet.Packet.TheVariants as packets
 use Rattle.mq_packet.specs.Encoding.{encodings}
 use Rattle.mq_flow.specs.Receiver.{none_received}
 use Rattle.mq_route.specs.declared.act.Act.{Act}
@@ -27,11 +29,11 @@ pub record RoutingLaws : Type 0 where
   -- those that the acts route to it
   pub settled_is_routed : (config : HubConfig) (episodes : List Episode) (hub : HubState) → Follows (new_hub config) episodes hub
       → (client : ℕ) → settled client (acts_of episodes) ≡ routed client (acts_of episodes)
-  -- under ClosePublisher, nothing is missed
-  pub nothing_missed : (config : HubConfig) → config.when_full ≡ ClosePublisher → (episodes : List Episode) (hub : HubState) → Follows (new_hub config) episodes hub
+  -- under ClosePublisher and without a limit on pending output, nothing is missed
+  pub nothing_missed : (config : HubConfig) → config.when_full ≡ ClosePublisher → config.most_waiting ≡ None → (episodes : List Episode) (hub : HubState) → Follows (new_hub config) episodes hub
       → (client : ℕ) → missed client (acts_of episodes) ≡ []
   -- so the messages placed for a client are those that the acts route to it
-  pub placed_is_routed : (config : HubConfig) → config.when_full ≡ ClosePublisher → (episodes : List Episode) (hub : HubState) → Follows (new_hub config) episodes hub
+  pub placed_is_routed : (config : HubConfig) → config.when_full ≡ ClosePublisher → config.most_waiting ≡ None → (episodes : List Episode) (hub : HubState) → Follows (new_hub config) episodes hub
       → (client : ℕ) → placed client (acts_of episodes) ≡ routed client (acts_of episodes)
   -- the copies that a message makes due now are those that would be routed
   pub due_is_routed : (config : HubConfig) (episodes : List Episode) (hub : HubState) → Follows (new_hub config) episodes hub
@@ -55,6 +57,11 @@ places_on conn hub (acts.Closed other why) = false
 places_on conn hub (acts.Removed client) = false
 places_on conn hub (acts.WillDropped client) = false
 
+-- a packet that is no PUBLISH of QoS 0, which alone has no packet identifier (2.3.1)
+abbrev pub is_no_plain_publish : Packet → Bool
+is_no_plain_publish (packets.Publish publication) = is_some publication.delivery
+is_no_plain_publish packet = true
+
 pub record OutputLaws : Type 0 where
   -- from any time in a run, until a connection ends: its written bytes and its pending output are
   -- the output that was pending, and the encodings of the packets that are sent on it
@@ -68,3 +75,10 @@ pub record OutputLaws : Type 0 where
       → (event : HubEvent) (reply : HubReply) (later_hub : HubState) → HubStep hub event reply later_hub
       → (conn : Conn) → is_on conn event ≡ false → list_any (places_on conn hub) reply.acts ≡ false
       → waiting_on conn later_hub.connections ≡ waiting_on conn hub.connections
+  -- from any time in a run, until a connection ends: its pending output is at most the limit on it,
+  -- or the output that was pending, with the packets that are sent on it and no PUBLISH of QoS 0
+  pub waiting_within : (config : HubConfig) (most : ℕ) → config.most_waiting ≡ Some most → (before : List Episode) (hub : HubState) (after : List Episode) (later_hub : HubState)
+      → Follows (new_hub config) before hub → Follows hub after later_hub
+      → (conn : Conn) → Stays conn after → knows conn hub.connections ≡ true
+      → length (waiting_on conn later_hub.connections)
+      ≤ max most (length (waiting_on conn hub.connections)) + length (encodings (filter is_no_plain_publish (on_conn conn (sent_in after))))

@@ -20,3 +20,4 @@ pub mod StepSome
 pub mod Silent
 pub mod Clients
 pub mod Bounds
+pub mod Expired

@@ -1,5 +1,5 @@
 -- HubStep: the result of an event (4.2, 4.6, 4.8).
-use Rattle.std.specs.Prelude.{◌≡◌, ℕ, ◌+◌, ◌<◌, nat_lt, Bool, true, false, max, List, [], ◌∷◌, ◌++◌, length, Option, Some, None, if◌then◌else◌}
+use Rattle.std.specs.Prelude.{◌≡◌, ℕ, ◌+◌, ◌<◌, nat_lt, Bool, true, false, not, ◌&&◌, max, List, [], ◌∷◌, ◌++◌, length, map, filter, Option, Some, None, is_some, if◌then◌else◌}
 use Rattle.mq_packet.specs.declared.packet.Packet.{Packet}
 use Rattle.mq_decode.specs.declared.fault.DecodeFault.{DecodeFault}
 use Rattle.mq_decode.specs.Grammar.{ReadsWithin, Pending, Faulty}
@@ -16,8 +16,8 @@ use Rattle.mq_route.specs.declared.refusal.HubRefusal.{HubRefusal}
 use Rattle.mq_route.specs.declared.refusal.HubRefusal.TheVariants as refusals
 use Rattle.mq_route.specs.declared.connection_state.ConnectionState.{ConnectionState}
 use Rattle.mq_route.specs.declared.connection_state.ConnectionState.TheVariants.{AwaitingConnect, ConnectedAs, Closed}
-use Rattle.mq_route.specs.Hub.{HubState, HubConnection, knows, stage_of, held_on, waiting_on, with_connection, without_connection, is_open}
-use Rattle.mq_route.specs.Work.{Work, begin, with_connections, close}
+use Rattle.mq_route.specs.Hub.{HubState, HubConnection, HubSession, knows, stage_of, held_on, waiting_on, with_connection, without_connection, up_on, is_open}
+use Rattle.mq_route.specs.Work.{Work, begin, with_connections, remove, close}
 use Rattle.mq_route.specs.Arrives.{Growth, takes, on_malformed}
 
 -- ---- incoming bytes
@@ -69,6 +69,23 @@ pub data Ticks (within : Option ℕ) (now : ℕ) : List HubConnection → Work �
   Late : (x : HubConnection) (xs : List HubConnection) (why : HubClose) (fits : Bool) (w w2 : Work) → late_reason within now x.since x.stage ≡ Some why
       → Ticks within now xs (close x.conn why fits w) w2 → Ticks within now (x ∷ xs) w w2
 
+-- the session's client is not connected, and disconnected longer ago than the limit
+abbrev pub is_expired : HubState → HubSession → Bool
+is_expired h s = not (is_some (up_on s.key h.connections)) && has_passed h.config.session_expiry s.left h.clock
+
+-- the keys of the sessions that are expired
+abbrev pub expired_keys : HubState → List ℕ
+expired_keys h = map (λ s. s.key) (filter (is_expired h) h.sessions)
+
+-- sessions are removed one after another
+abbrev pub remove_all : List ℕ → Work → Work
+remove_all [] w = w
+remove_all (key ∷ keys) w = remove_all keys (remove key w)
+
+-- the expired sessions are removed
+unfoldable pub expire : HubState → Work
+expire h = remove_all (expired_keys h) (begin h)
+
 -- ---- events
 
 -- why an event is refused, unless an allocation fails: its connection is unknown, or known already
@@ -110,7 +127,7 @@ Does h (Opened k) r w = (w ≡ begin (opened k h)) × (r ≡ done true w)
 Does h (Bytes k piece) r w =
     Comes h.config.limits k (held_on k h.connections ++ piece) (holding k [] (begin h)) w × (r ≡ done (is_open_on k w) w)
 Does h (Ended k) r w = (fits : Bool) × (w ≡ ended k fits h) × (r ≡ done false w)
-Does h (Tick now) r w = Ticks h.config.connect_within (max h.clock now) h.connections (begin (told now h)) w × (r ≡ done true w)
+Does h (Tick now) r w = Ticks h.config.connect_within (max h.clock now) h.connections (expire (told now h)) w × (r ≡ done true w)
 Does h (Collect k) r w =
     (w ≡ begin (collected k h)) × (r ≡ record { acts = []; output = waiting_on k h.connections; alive = is_open (stage_of k h.connections) })
 

@@ -1,17 +1,20 @@
 -- The state of a step in progress, and its elementary changes.
-use Rattle.std.specs.Prelude.{ℕ, ◌-◌, Bool, true, false, ◌&&◌, ◌||◌, ◌==◌, nat_le, List, [], ◌∷◌, ◌++◌, length, map, Option, Some, None, if◌then◌else◌}
+use Rattle.std.specs.Prelude.{ℕ, ◌+◌, ◌-◌, Bool, true, false, not, ◌&&◌, ◌||◌, ◌==◌, nat_le, List, [], ◌∷◌, ◌++◌, length, map, sum_by, Option, Some, None, if◌then◌else◌}
 use Rattle.std.specs.List.{list_all, count_by}
 use Rattle.mq_topic.specs.Rows.{with_row, without_row, without_client}
 use Rattle.mq_packet.specs.declared.connect.Will.{Will}
 use Rattle.mq_packet.specs.declared.message.Message.{Message}
 use Rattle.mq_packet.specs.declared.packet.Packet.{Packet}
 use Rattle.mq_packet.specs.declared.packet.Request.{Request}
-use Rattle.mq_packet.specs.Encoding.{encodings}
+use Rattle.mq_packet.specs.Encoding.{encodings, encoded_size}
 use Rattle.mq_flow.specs.Next.{next_identifier}
 use Rattle.mq_flow.specs.Sender.{uses, is_full}
+use Rattle.mq_flow.specs.Stored.{message_bytes, stored_bytes}
 use Rattle.mq_end.specs.declared.reason.CloseReason.TheVariants.{Left}
 use Rattle.mq_end.specs.End.{End, Reply, over}
 use Rattle.mq_end.specs.Both.{has_identifier, publishes}
+use Rattle.mq_end.specs.Sizes.{publish_size}
+use Rattle.mq_route.specs.declared.config.HubConfig.{HubConfig}
 use Rattle.mq_route.specs.declared.config.WhenFull.{WhenFull}
 use Rattle.mq_route.specs.declared.config.WhenFull.TheVariants.{ClosePublisher, DropCopy}
 use Rattle.mq_route.specs.declared.conn.Conn.{Conn}
@@ -22,7 +25,7 @@ use Rattle.mq_route.specs.declared.close.HubClose.TheVariants.{Own}
 use Rattle.mq_route.specs.declared.connection_state.ConnectionState.{ConnectionState}
 use Rattle.mq_route.specs.declared.connection_state.ConnectionState.TheVariants.{AwaitingConnect, ConnectedAs, Closed}
 use Rattle.mq_route.specs.Copies.{will_message, kept, retained_for}
-use Rattle.mq_route.specs.Hub.{HubState, HubSession, HubConnection, with_connection, stage_of, up_on, end_of, with_end, without_session, for_key, copies_of}
+use Rattle.mq_route.specs.Hub.{HubState, HubSession, HubConnection, with_connection, waiting_on, stage_of, key_on, up_on, end_of, with_end, with_left, without_session, for_key, copies_of}
 
 -- hub: the broker. did: its acts. sent: the packets that it sent, each with its connection. came:
 -- the packets of connected clients, each with the client's key, without those that closed their
@@ -82,18 +85,42 @@ does key move work =
 abbrev pub publishes_next : Message → End → Reply
 publishes_next message e = publishes (next_identifier e.last e.book) message e
 
--- copies without room are dropped
+-- copies of QoS 1 and 2 without room are dropped
 abbrev pub drops_copies : WhenFull → Bool
 drops_copies ClosePublisher = false
 drops_copies DropCopy = true
 
--- the copy needs an identifier, and the client's session has none free (2.3.1)
+-- a limit leaves room for this number of bytes next to those in use; None: there is no limit
+abbrev pub leaves : Option ℕ → ℕ → ℕ → Bool
+leaves None used more = true
+leaves (Some most) used more = nat_le more (most - used)
+
+-- the copy has QoS 1 or 2, and the client's session has no identifier free for it (2.3.1), or may
+-- not store its bytes
 abbrev pub lacks_room : ℕ → Message → HubState → Bool
-lacks_room key message hub = has_identifier message.qos && is_full hub.config.capacity (end_of key hub.sessions).book
+lacks_room key message hub =
+    has_identifier message.qos
+    && (is_full hub.config.capacity (end_of key hub.sessions).book
+    || not (leaves hub.config.most_stored (stored_bytes (end_of key hub.sessions).book) (message_bytes message)))
+
+-- the length of the pending output of the client's connection; 0 if it has none
+abbrev pub pending_on : Option Conn → List HubConnection → ℕ
+pending_on None connections = 0
+pending_on (Some conn) connections = length (waiting_on conn connections)
+
+-- the number of bytes of the PUBLISH of a message (2.2, 3.3)
+abbrev pub publish_bytes : Message → ℕ
+publish_bytes message = encoded_size (publish_size message)
+
+-- the copy has QoS 0, and the client's connection may not have its bytes as pending output
+abbrev pub lacks_output : ℕ → Message → HubState → Bool
+lacks_output key message hub =
+    not (leaves hub.config.most_waiting (pending_on (up_on key hub.connections) hub.connections) (publish_bytes message))
+    && not (has_identifier message.qos)
 
 -- the client misses the copy
 abbrev pub is_missed : ℕ → Message → HubState → Bool
-is_missed key message hub = drops_copies hub.config.when_full && lacks_room key message hub
+is_missed key message hub = (drops_copies hub.config.when_full && lacks_room key message hub) || lacks_output key message hub
 
 -- a copy that is due is placed for a client (3.3.5), or the client misses it and nothing else
 -- changes
@@ -111,10 +138,19 @@ place_all (x ∷ xs) work = place_all xs (place x.0 x.1 work)
 abbrev pub needs : ℕ → List (ℕ × Message) → ℕ
 needs key copies = count_by (λ x. x.0 == key && has_identifier x.1.qos) copies
 
--- each session has enough identifiers free for its copies (2.3.1)
+-- the number of bytes of these that the client's session stores
+abbrev pub needed_bytes : ℕ → List (ℕ × Message) → ℕ
+needed_bytes key copies = sum_by (λ x. if x.0 == key && has_identifier x.1.qos then message_bytes x.1 else 0) copies
+
+-- the session has enough identifiers free for its copies (2.3.1), and may store their bytes
+abbrev pub fits_in : HubConfig → List (ℕ × Message) → HubSession → Bool
+fits_in config copies session =
+    nat_le (needs session.key copies) (config.capacity - length (uses session.end.book))
+    && leaves config.most_stored (stored_bytes session.end.book) (needed_bytes session.key copies)
+
+-- each session has room for its copies
 unfoldable pub all_fit : List (ℕ × Message) → HubState → Bool
-all_fit copies hub =
-    list_all (λ s. nat_le (needs s.key copies) (hub.config.capacity - length (uses s.end.book))) hub.sessions
+all_fit copies hub = list_all (fits_in hub.config copies) hub.sessions
 
 -- copies without room are dropped, or there is room for all
 unfoldable pub have_room : List (ℕ × Message) → HubState → Bool
@@ -160,9 +196,14 @@ leaves_behind why fits (ConnectedAs key terms last_activity) work =
     (remove_if terms.clean_session key (with_sessions (with_end key (over (end_of key work.hub.sessions))) work))
 leaves_behind why fits Closed work = work
 
--- a connection is closed (4.8); fits: the allocations for its will succeed
+-- a connection is shut down; fits: the allocations for its will succeed
+unfoldable pub shut_down : Conn → HubClose → Bool → Work → Work
+shut_down conn why fits work = leaves_behind why fits (stage_of conn work.hub.connections) (said (acts.Closed conn why) (shut conn work))
+
+-- a connection is closed (4.8): it is shut down, and the client's session stores the time
 unfoldable pub close : Conn → HubClose → Bool → Work → Work
-close conn why fits work = leaves_behind why fits (stage_of conn work.hub.connections) (said (acts.Closed conn why) (shut conn work))
+close conn why fits work =
+    with_sessions (with_left (key_on (stage_of conn work.hub.connections)) work.hub.clock) (shut_down conn why fits work)
 
 -- ---- subscriptions
 

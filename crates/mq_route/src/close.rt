@@ -12,9 +12,10 @@ pub enum HubClose {
     /// The connection's end closed it, or the broker refused its CONNECT (3.2.2.3).
     #[error("{0}")]
     Own(CloseReason),
-    /// A session that is due a message has no packet identifier free (2.3.1), and the broker is
-    /// configured with [`WhenFull::ClosePublisher`](crate::WhenFull).
-    #[error("a session that is due a message has no packet identifier free")]
+    /// A session that is due a message has no room for it: no packet identifier is free (2.3.1), or
+    /// the message exceeds [`HubConfig::most_stored`](crate::HubConfig). The broker is configured
+    /// with [`WhenFull::ClosePublisher`](crate::WhenFull).
+    #[error("a session that is due a message has no room for it")]
     TargetFull,
     /// The client connected again on another connection (3.1.4).
     #[error("the client connected on another connection")]

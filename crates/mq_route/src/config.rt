@@ -22,7 +22,8 @@ pub struct HashedUser {
     pub digest: [u8; 32],
 }
 
-/// The treatment of a copy of QoS 1 or 2 whose session has no packet identifier free (2.3.1).
+/// The treatment of a copy of QoS 1 or 2 whose session has no room: no packet identifier is free
+/// (2.3.1), or the copy exceeds [`HubConfig::most_stored`].
 #[derive(Clone, Copy, Debug, Default, PartialEq, Eq)]
 pub enum WhenFull {
     /// The PUBLISH or SUBSCRIBE that makes the copy due closes its connection and has no other
@@ -54,10 +55,20 @@ pub struct HubConfig {
     pub users: Option<BoxedList<User>>,
     /// More users that may connect, whose passwords are stored as digests (3.1.3.4).
     pub hashed_users: Option<BoxedList<HashedUser>>,
-    /// The treatment of a copy whose session has no packet identifier free.
+    /// The treatment of a copy of QoS 1 or 2 whose session has no room.
     pub when_full: WhenFull,
     /// The time in milliseconds within which a new connection must send CONNECT; `None` for no
     /// limit (3.1). A tick closes a connection that was opened longer ago. The time of opening is
     /// that of the last tick, so call `Tick` before `Opened`.
     pub connect_within: Option<u64>,
+    /// The time in milliseconds after which a tick removes the session of a client that is not
+    /// connected; `None` to keep it (3.1.2.4). It counts from the disconnect, whose time is that of
+    /// the last tick, so call `Tick` before `Bytes` and `Ended`.
+    pub session_expiry: Option<u64>,
+    /// The maximum number of topic and payload bytes of the messages that one session stores (4.1);
+    /// `None` for no limit. A copy of QoS 1 or 2 that exceeds it has no room.
+    pub most_stored: Option<u64>,
+    /// The maximum number of pending output bytes of one connection with a copy of QoS 0; `None`
+    /// for no limit. The client misses a copy that exceeds it. Other packets are always queued.
+    pub most_waiting: Option<u64>,
 }

@@ -4,6 +4,7 @@ ghost use Rattle.mq_route.specs.Accepted.{AcceptLaws};
 ghost use Rattle.mq_route.specs.Clients.{ClientLaws};
 ghost use Rattle.mq_route.specs.Dropped.{WillLaws};
 ghost use Rattle.mq_route.specs.Examples.{Examples};
+ghost use Rattle.mq_route.specs.Expired.{ExpiryLaws};
 ghost use Rattle.mq_route.specs.Full.{FullLaws};
 ghost use Rattle.mq_route.specs.History.{HistoryLaws};
 ghost use Rattle.mq_route.specs.Laws.{OutputLaws, RoutingLaws, TakingLaws};
@@ -85,6 +86,13 @@ pub fn accept_laws()
 /// it.
 pub fn silent_laws()
     ensures { SilentLaws }
+{}
+
+/// A tick removes the sessions whose clients are away for longer than
+/// [`HubConfig::session_expiry`](crate::HubConfig) (3.1.2.4), before it closes connections. A
+/// session stores the time at which its client's connection closes.
+pub fn expiry_laws()
+    ensures { ExpiryLaws }
 {}
 
 /// A client is connected on a connection exactly if the acts of the run say so (3.1.4, 4.6).

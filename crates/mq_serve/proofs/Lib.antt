@@ -1,3 +1,4 @@
 pub mod Fronts
 pub mod Sends
 pub mod AuditedRuns
+pub mod Reports

@@ -1,5 +1,5 @@
 -- The end of a broker over sockets.
-use Rattle.std.specs.Prelude.{ℕ, zero, suc, List, [], ◌∷◌, Option, Some, None, Result, Ok, Err}
+use Rattle.std.specs.Prelude.{◌≡◌, ◌⊎◌, ℕ, zero, suc, List, [], ◌∷◌, Option, Some, None, Result, Ok, Err}
 use Rattle.std.specs.declared.io.ErrorKind.{ErrorKind}
 use Rattle.mq_book.specs.declared.work_end.WorkEnd.{WorkEnd}
 use Rattle.mq_book.specs.declared.work_end.WorkEnd.TheVariants as works
@@ -38,3 +38,9 @@ abbrev pub stop_of : Option WorkEnd → ℕ → ErrorKind → Option ServeEnd
 stop_of (Some why) left failure = Some (end_of_work why)
 stop_of None zero failure = None
 stop_of None (suc left) failure = Some (Net failure)
+
+-- The exit status of a program is 0, and it reports no end; or it is that of the end which it
+-- reports.
+abbrev pub IsReported : ℕ → Option ServeEnd → Option ServeEnd → Type 0
+IsReported status old new =
+    ((status ≡ 0) × (new ≡ old)) ⊎ ((why : ServeEnd) × (new ≡ Some why) × (status ≡ end_status why))

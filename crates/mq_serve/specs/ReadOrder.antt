@@ -1,6 +1,6 @@
 -- The order in which workers pass on their bytes. Connections are numbered in the order in which
 -- they were accepted.
-use Rattle.std.specs.Prelude.{ℕ, Bool, true, ◌||◌, nat_le, Option, Some, None}
+use Rattle.std.specs.Prelude.{ℕ, Bool, true, false, ◌||◌, nat_le, List, Option, Some, None, slice_index_or, slice_set}
 use Rattle.mq_serve.specs.declared.read_order.ReadSeat.{ReadSeat}
 
 -- the worker serves no connection that was accepted before this one
@@ -16,3 +16,27 @@ is_read number seat = is_later number seat.connection || nat_le number seat.empt
 -- A read left nothing. It began after the last read that left nothing.
 abbrev pub after_empty_read : ℕ → ReadSeat → ReadSeat
 after_empty_read last seat = record seat { emptied = seat.seen; seen = last }
+
+-- a worker that serves nothing; one that begins to serve a connection
+abbrev pub idle : ReadSeat
+idle = record { connection = None; emptied = 0; seen = 0; is_waiting = false }
+
+abbrev pub serving : ℕ → ReadSeat
+serving number = record idle { connection = Some number }
+
+-- The readings of all workers, for contracts: the last connection that was accepted, and the
+-- reading of each worker.
+pub record Readings : Type 0 where
+  pub last : ℕ
+  pub seats : List ReadSeat
+
+abbrev pub readings_of : ℕ → List ReadSeat → Readings
+readings_of last seats = record { last = last; seats = seats }
+
+-- the reading of a worker
+abbrev pub seat_of : ℕ → Readings → ReadSeat
+seat_of worker readings = slice_index_or readings.seats worker idle
+
+-- the reading of a worker is this one
+abbrev pub with_seat : ℕ → ReadSeat → Readings → Readings
+with_seat worker seat readings = record readings { seats = slice_set readings.seats worker seat }

@@ -116,14 +116,12 @@ fn after_failure(kind: ErrorKind, code: Option<i32>) -> AfterFailure {
 // gave up.
 fn accept(listener: &TcpListener) -> io::Result<TcpStream> {
     for _ in 0..u64::MAX {
-        match listener.accept() {
+        let error = match listener.accept() {
             Ok((stream, _)) => return Ok(stream),
-            Err(error) => {
-                let next = after_failure(error.kind(), error.raw_os_error());
-                if next != AfterFailure::AtOnce {
-                    return Err(error);
-                }
-            }
+            Err(error) => error,
+        };
+        if after_failure(error.kind(), error.raw_os_error()) != AfterFailure::AtOnce {
+            return Err(error);
         }
     }
     Err(io::Error::from(ErrorKind::Interrupted))
@@ -179,16 +177,16 @@ impl<'a, R: Wait + Clock> ConnectionSource for WorkerAcceptor<'a, R> {
             if let Some(turns) = self.turns {
                 turns.leave(self.rt);
             }
-            match self.accept() {
-                (Accepted::Connection(stream), turn) => {
-                    if let Ok(polled) = PolledStream::new(
-                        self.rt, self.alloc, self.poll, stream, turn,
-                    ) {
-                        return Some(polled);
+            let (accepted, turn) = self.accept();
+            match accepted {
+                Accepted::Connection(stream) => {
+                    let polled = PolledStream::new(self.rt, self.alloc, self.poll, stream, turn);
+                    if polled.is_ok() {
+                        return polled.ok();
                     }
                 }
-                (Accepted::Later, _) => self.poll.lock(self.rt).pause(),
-                (Accepted::Never, _) => return None,
+                Accepted::Later => self.poll.lock(self.rt).pause(),
+                Accepted::Never => return None,
             }
         }
         None

@@ -32,6 +32,9 @@ pub fn broker_config() -> HubConfig
       hashed_users = None;
       when_full = ClosePublisher;
       connect_within = None;
+      session_expiry = None;
+      most_stored = None;
+      most_waiting = None;
     } }
 {
     HubConfig {
@@ -44,5 +47,8 @@ pub fn broker_config() -> HubConfig
         hashed_users: None,
         when_full: WhenFull::ClosePublisher,
         connect_within: None,
+        session_expiry: None,
+        most_stored: None,
+        most_waiting: None,
     }
 }

@@ -2,6 +2,7 @@
 
 ghost use Rattle.std.specs.Prelude.{◌≡◌, ◌<◌, ◌≤◌, IfOk};
 ghost use Rattle.mq_route.specs.Hub.{HubState};
+ghost use Rattle.mq_serve.specs.Ends.{IsReported};
 ghost use Rattle.mq_serve.specs.Printed.{AreSessions};
 
 use crate::acceptor::Acceptor;
@@ -92,13 +93,13 @@ where
 }
 
 // Writes the reason for an early end, which `end` gets too. Returns the status of the program.
-fn end_early<W: Write>(
-    end: &mut Option<ServeEnd>,
-    output: &mut W,
-    why: ServeEnd,
-) -> io::Result<u8> {
+#[tactic(auto, using(crate::proofs::Reports::early))]
+fn end_early<W: Write>(end: &mut Option<ServeEnd>, output: &mut W, why: ServeEnd) -> io::Result<u8>
+    ensures { IfOk result (λ status. IsReported status end.old end.new) }
+{
     *end = Some(why);
-    write_end(output, why)
+    let status = write_end(output, why)?;
+    Ok(status)
 }
 
 /// Serves the connections of a listener, with workers in threads.
@@ -107,6 +108,7 @@ fn end_early<W: Write>(
 /// connections were served, the remaining sessions and the number of connections; or the reason of
 /// an early end, which `end` gets too. Returns the status of the program. `Err` means that the
 /// output failed.
+#[tactic(auto, using(crate::proofs::Reports::all_served))]
 pub fn serve_on<R, W>(
     rt: &R,
     alloc: Global,
@@ -119,6 +121,7 @@ where
     R: Net + Threads + Wait + Clock + Sync,
     W: Write,
     requires { (0 < options.workers) × (options.workers ≤ 64) }
+    ensures { IfOk result (λ status. IsReported status end.old end.new) }
 {
     let address = match listener.local_addr() {
         Ok(address) => address,
@@ -150,6 +153,7 @@ where
     R: Net<Listener = TcpListener, Stream = TcpStream> + Threads + Wait + Clock + Sync,
     W: Write,
     requires { (0 < options.workers) × (options.workers ≤ 64) }
+    ensures { IfOk result (λ status. IsReported status end.old end.new) }
 {
     match TcpListener::bind(rt, (Ipv4Addr::LOCALHOST, port)) {
         Ok(listener) => serve_on(rt, alloc, listener, options, end, output),

@@ -1,10 +1,11 @@
 //! The order in which workers pass on the bytes that they read.
 
-ghost use Rattle.std.specs.Prelude.{◌≡◌};
+ghost use Rattle.std.specs.Prelude.{◌≡◌, ◌+◌, ◌-◌, ◌^◌, IfOk, min, replicate};
 ghost use Rattle.std.specs.List.{list_all};
-ghost use Rattle.mq_serve.specs.ReadOrder.{after_empty_read, is_later, is_read};
+ghost use Rattle.mq_serve.specs.ReadOrder.{after_empty_read, idle, is_later, is_read, seat_of, serving, with_seat};
 
 use std::alloc::{AllocError, Global};
+use std::marker::Model;
 
 /// The reading of a worker.
 #[derive(Clone, Copy, Debug, PartialEq, Eq)]
@@ -27,6 +28,14 @@ pub struct ReadSeat {
 pub struct ReadOrder {
     last: u64,
     seats: Vec<ReadSeat>,
+}
+
+impl Model for ReadOrder {
+    ghost use Rattle.mq_serve.specs.ReadOrder.{Readings, readings_of};
+
+    ghost Value = { Readings };
+
+    ghost view = { λ o. readings_of o.last o.seats.items };
 }
 
 const IDLE: ReadSeat = ReadSeat {
@@ -76,55 +85,87 @@ fn after_empty_read(last: u64, seat: ReadSeat) -> ReadSeat
 
 impl ReadOrder {
     /// The order of this number of workers, which serve nothing yet.
-    pub fn new(alloc: Global, workers: usize) -> Result<ReadOrder, AllocError> {
-        Ok(ReadOrder {
-            last: 0,
-            seats: vec![in alloc; IDLE; workers]?,
-        })
+    pub fn new(alloc: Global, workers: usize) -> Result<ReadOrder, AllocError>
+        ensures { IfOk result (λ order. order ≡ record { last = 0; seats = replicate workers idle }) }
+    {
+        let seats = vec![in alloc; IDLE; workers]?;
+        Ok(ReadOrder { last: 0, seats })
     }
 
     /// The readings of the workers, in the order of their numbers.
-    pub fn seats(&self) -> &[ReadSeat] {
+    pub fn seats(&self) -> &[ReadSeat]
+        ensures { result.now ≡ self.now.seats }
+    {
         self.seats.as_slice()
     }
 
-    /// A worker serves a connection that was accepted now. Returns the number of the connection.
-    pub fn accept(&mut self, worker: u16) -> u64 {
-        self.last = self.last.saturating_add(1);
-        if let Some(seat) = self.seats.get_mut(usize::from(worker)) {
-            *seat = ReadSeat {
-                connection: Some(self.last),
-                ..IDLE
-            };
+    // The reading of a worker changes, if there is such a worker.
+    fn put(&mut self, worker: u16, seat: ReadSeat)
+        ensures { self.new ≡ with_seat worker seat self.old }
+    {
+        let at = usize::from(worker);
+        if at < self.seats.len() {
+            self.seats[at] = seat;
         }
-        self.last
+    }
+
+    // The reading of a worker; an idle one if there is no such worker.
+    fn seat(&self, worker: u16) -> ReadSeat
+        ensures { result ≡ seat_of worker self.now }
+    {
+        let at = usize::from(worker);
+        if at < self.seats.len() {
+            self.seats[at]
+        } else {
+            IDLE
+        }
+    }
+
+    /// A worker serves a connection that was accepted now. Returns the number of the connection.
+    pub fn accept(&mut self, worker: u16) -> u64
+        ensures number { result ≡ min (self.old.last + 1) (2 ^ 64 - 1) }
+        ensures seats { self.new ≡ with_seat worker (serving result) (record self.old { last = result }) }
+    {
+        let number = self.last.saturating_add(1);
+        self.last = number;
+        self.put(
+            worker,
+            ReadSeat {
+                connection: Some(number),
+                ..IDLE
+            },
+        );
+        number
     }
 
     /// The connection of a worker ended, and everything that was read of it is passed on.
-    pub fn leave(&mut self, worker: u16) {
-        if let Some(seat) = self.seats.get_mut(usize::from(worker)) {
-            *seat = IDLE;
-        }
+    pub fn leave(&mut self, worker: u16)
+        ensures { self.new ≡ with_seat worker idle self.old }
+    {
+        self.put(worker, IDLE);
     }
 
     /// A read of a worker left nothing, and everything that was read before is passed on.
-    pub fn note_empty(&mut self, worker: u16) {
-        if let Some(seat) = self.seats.get_mut(usize::from(worker)) {
-            *seat = after_empty_read(self.last, *seat);
-        }
+    pub fn note_empty(&mut self, worker: u16)
+        ensures { self.new ≡ with_seat worker (after_empty_read self.old.last (seat_of worker self.old)) self.old }
+    {
+        let seat = after_empty_read(self.last, self.seat(worker));
+        self.put(worker, seat);
     }
 
     /// Whether the first bytes of this connection may be passed on.
     pub fn is_turn(&self, number: u64) -> bool
-        ensures { result ≡ list_all (is_read number) self.now.seats.items }
+        ensures { result ≡ list_all (is_read number) self.now.seats }
     {
         are_read(number, self.seats.as_slice())
     }
 
     /// A worker waits for its turn, or waits no more.
-    pub fn set_waiting(&mut self, worker: u16, is_waiting: bool) {
-        if let Some(seat) = self.seats.get_mut(usize::from(worker)) {
-            seat.is_waiting = is_waiting;
-        }
+    pub fn set_waiting(&mut self, worker: u16, is_waiting: bool)
+        ensures { self.new ≡ with_seat worker (record (seat_of worker self.old) { is_waiting = is_waiting }) self.old }
+    {
+        let mut seat = self.seat(worker);
+        seat.is_waiting = is_waiting;
+        self.put(worker, seat);
     }
 }

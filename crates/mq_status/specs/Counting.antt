@@ -1,6 +1,8 @@
 -- The counters of a broker, and what each act adds to them.
 use Rattle.std.specs.Prelude.{ℕ, ◌≡◌, ◌+◌, ◌-◌, ◌==◌, min, List, length, slice_index, if◌then◌else◌}
 use Rattle.std.specs.List.{sum_by}
+use Rattle.mq_topic.specs.declared.qos.Qos.{Qos}
+use Rattle.mq_topic.specs.declared.qos.Qos.TheVariants.{Q0, Q1, Q2}
 use Rattle.mq_topic.specs.Qos.{qos_number}
 use Rattle.mq_packet.specs.Codes.{refusal_number}
 use Rattle.mq_packet.specs.declared.message.Message.{Message}
@@ -11,6 +13,7 @@ use Rattle.mq_route.specs.declared.close.HubClose.{HubClose}
 use Rattle.mq_route.specs.declared.close.HubClose.TheVariants as closes
 use Rattle.mq_status.specs.declared.counter.Counter.{Counter}
 use Rattle.mq_status.specs.declared.counter.Counter.TheVariants as counters
+use Rattle.mq_status.specs.declared.counter.MissReason.{MissReason}
 use Rattle.mq_status.specs.declared.counter.MissReason.TheVariants as misses
 use Rattle.mq_status.specs.declared.metrics.Gauges.{Gauges}
 
@@ -83,13 +86,19 @@ abbrev pub refusal_adds : Counter → HubClose → ℕ
 refusal_adds counter (closes.Own (ends.Refused code)) = share (counters.Refused code) 1 counter
 refusal_adds counter other = 0
 
+-- why a client misses a copy of this QoS: its session is full, or its pending output with QoS 0
+abbrev pub miss_reason : Qos → MissReason
+miss_reason Q0 = misses.OutputFull
+miss_reason Q1 = misses.SessionFull
+miss_reason Q2 = misses.SessionFull
+
 -- what an act adds to a counter
 abbrev pub act_adds : Counter → Act → ℕ
 act_adds counter (acts.Took client message) =
     share (counters.MessagesIn message.qos) 1 counter + share (counters.MessageBytesIn message.qos) (size message) counter
 act_adds counter (acts.Placed client message) =
     share (counters.MessagesOut message.qos) 1 counter + share (counters.MessageBytesOut message.qos) (size message) counter
-act_adds counter (acts.Missed client message) = share (counters.Missed misses.SessionFull) 1 counter
+act_adds counter (acts.Missed client message) = share (counters.Missed (miss_reason message.qos)) 1 counter
 act_adds counter (acts.Closed conn reason) = share (counters.Closed reason) 1 counter + refusal_adds counter reason
 act_adds counter (acts.Up conn client present) = share counters.Connected 1 counter
 act_adds counter (acts.Removed client) = share counters.SessionsEnded 1 counter

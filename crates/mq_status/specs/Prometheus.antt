@@ -98,7 +98,8 @@ abbrev pub gauges_text : Gauges → List ℕ
 gauges_text gauges =
     single_text (codes "mqtt_connections") (codes "Connections that are open.") (codes "gauge") gauges.connections
     ++ (single_text (codes "mqtt_sessions") (codes "Sessions that are stored.") (codes "gauge") gauges.sessions
-    ++ single_text (codes "mqtt_retained_messages") (codes "Retained messages.") (codes "gauge") gauges.retained)
+    ++ (single_text (codes "mqtt_subscriptions") (codes "Subscriptions that are stored.") (codes "gauge") gauges.subscriptions
+    ++ single_text (codes "mqtt_retained_messages") (codes "Retained messages.") (codes "gauge") gauges.retained))
 
 abbrev pub memory_text : Gauges → List ℕ
 memory_text gauges =

@@ -1,7 +1,7 @@
 //! The counters of a broker.
 
 ghost use Rattle.std.specs.Prelude.{◌≡◌, ◌<◌};
-ghost use Rattle.mq_status.specs.Counting.{close_number, place};
+ghost use Rattle.mq_status.specs.Counting.{close_number, miss_reason, place};
 
 use mq_end::CloseReason;
 use mq_packet::RefusalCode;
@@ -18,6 +18,16 @@ pub enum MissReason {
     SessionFull,
     /// Its connection has no room for a message of quality of service 0.
     OutputFull,
+}
+
+/// Why a client misses a copy of this quality of service.
+pub(crate) fn miss_reason(qos: Qos) -> MissReason
+    ensures { result ≡ miss_reason qos }
+{
+    match qos {
+        Qos::Q0 => MissReason::OutputFull,
+        Qos::Q1 | Qos::Q2 => MissReason::SessionFull,
+    }
 }
 
 /// A counter of a broker. Each starts at 0, never decreases, and stops at the greatest `u64`.

@@ -5,7 +5,7 @@ ghost use Rattle.mq_status.specs.Counting.{Grows, act_adds, acts_add, place, ref
 ghost use Rattle.mq_status.specs.declared.counter.Counter as declared;
 ghost use Rattle.mq_status.specs.declared.counter.Counter.TheVariants.{BytesRead, BytesWritten, Closed, RoundMicroseconds, Rounds};
 
-use crate::counter::{COUNTERS, Counter, MissReason};
+use crate::counter::{COUNTERS, Counter, miss_reason};
 use mq_end::CloseReason;
 use mq_packet::Message;
 use mq_route::{Act, HubClose, HubReply};
@@ -18,6 +18,8 @@ pub struct Gauges {
     pub connections: u64,
     /// Sessions that are stored, of connected clients or not.
     pub sessions: u64,
+    /// Subscriptions that are stored.
+    pub subscriptions: u64,
     /// Retained messages.
     pub retained: u64,
     /// Messages that sessions store.
@@ -105,7 +107,7 @@ impl Metrics {
                 self.add(Counter::MessagesOut(message.qos), 1);
                 self.add(Counter::MessageBytesOut(message.qos), size_of(message));
             }
-            Act::Missed(..) => self.add(Counter::Missed(MissReason::SessionFull), 1),
+            Act::Missed(_, message) => self.add(Counter::Missed(miss_reason(message.qos)), 1),
             Act::Closed(_, reason) => self.count_close(*reason),
             Act::Up(..) => self.add(Counter::Connected, 1),
             Act::Removed(_) => self.add(Counter::SessionsEnded, 1),

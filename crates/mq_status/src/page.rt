@@ -174,6 +174,7 @@ fn write_gauges<W: Write>(output: &mut W, gauges: Gauges) -> io::Result<()> {
         &[
             "connections",
             "sessions",
+            "subscriptions",
             "retained messages",
             "stored messages",
             "pending bytes",
@@ -181,6 +182,7 @@ fn write_gauges<W: Write>(output: &mut W, gauges: Gauges) -> io::Result<()> {
         &[
             gauges.connections,
             gauges.sessions,
+            gauges.subscriptions,
             gauges.retained,
             gauges.stored_messages,
             gauges.pending_bytes,

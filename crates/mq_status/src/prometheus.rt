@@ -291,6 +291,14 @@ fn write_gauges<W: Write>(output: &mut W, gauges: Gauges) -> io::Result<()>
     )?;
     let help = "Sessions that are stored.";
     write_single(output, "mqtt_sessions", help, "gauge", gauges.sessions)?;
+    let help = "Subscriptions that are stored.";
+    write_single(
+        output,
+        "mqtt_subscriptions",
+        help,
+        "gauge",
+        gauges.subscriptions,
+    )?;
     let help = "Retained messages.";
     write_single(
         output,

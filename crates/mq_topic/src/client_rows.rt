@@ -1,6 +1,6 @@
 //! The rows of a store, indexed by client.
 
-ghost use Rattle.std.specs.Prelude.{◌≡◌, [], ℕ, List, None, MatchOption, OnOk, OnErr};
+ghost use Rattle.std.specs.Prelude.{◌≡◌, ◌-◌, ◌^◌, length, min, [], ℕ, List, None, MatchOption, OnOk, OnErr};
 ghost use Rattle.std.specs.FinMap.{find};
 ghost use Rattle.std.specs.Ordering.{nat_cmp};
 ghost use Rattle.std.specs.Cmp.Lexicographic.{slice_cmp};
@@ -76,6 +76,17 @@ impl ClientRows {
             Some(own) => own.get(filter).copied(),
             None => None,
         }
+    }
+
+    /// Returns the number of rows.
+    pub(crate) fn len(&self) -> usize
+        ensures { result ≡ min (length self.now) (2 ^ 64 - 1) }
+    {
+        let mut count = 0_usize;
+        for (_, own) in self.clients.iter() {
+            count = count.saturating_add(own.len());
+        }
+        count
     }
 
     /// Removes the row of a client and a filter.

@@ -174,6 +174,10 @@ impl FilterStore for ListStore {
         qos_at(&self.rows, client, filter)
     }
 
+    fn len(&self) -> usize {
+        self.rows.len()
+    }
+
     fn remove(&mut self, client: ClientKey, filter: &TopicFilter) -> bool {
         let found = qos_at(&self.rows, client, filter).is_some();
         if found {

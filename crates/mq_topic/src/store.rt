@@ -1,6 +1,6 @@
 //! Stores of subscriptions.
 
-ghost use Rattle.std.specs.Prelude.{◌≡◌, List, None, IfOk, OnOk, OnErr, is_some};
+ghost use Rattle.std.specs.Prelude.{◌≡◌, ◌-◌, ◌^◌, List, length, min, None, IfOk, OnOk, OnErr, is_some};
 ghost use Rattle.mq_topic.specs.Rows.{Row, IsAscending, IsMatched, matched, row_qos, with_row, without_client, without_row};
 ghost use Rattle.mq_topic.specs.StoreLaws.{StoreLaws};
 
@@ -28,6 +28,10 @@ pub trait FilterStore {
     fn get(&self, client: ClientKey, filter: &TopicFilter) -> Option<Qos>
         ensures value { result ≡ row_qos client filter.now (rows self.now) }
         ensures ascending { IsAscending (rows self.now) };
+
+    /// Returns the number of rows.
+    fn len(&self) -> usize
+        ensures count { result ≡ min (length (rows self.now)) (2 ^ 64 - 1) };
 
     /// Removes the row of a client and a filter. Returns whether it existed.
     fn remove(&mut self, client: ClientKey, filter: &TopicFilter) -> bool

@@ -86,6 +86,10 @@ impl FilterStore for TrieStore {
         self.rows.get(client, filter)
     }
 
+    fn len(&self) -> usize {
+        self.rows.len()
+    }
+
     fn remove(&mut self, client: ClientKey, filter: &TopicFilter) -> bool {
         let found = self.rows.get(client, filter).is_some();
         if found {

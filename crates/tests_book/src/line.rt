@@ -66,5 +66,8 @@ pub(crate) fn config() -> Result<HubConfig, Fail>
         hashed_users: None,
         when_full: WhenFull::ClosePublisher,
         connect_within: None,
+        session_expiry: None,
+        most_stored: None,
+        most_waiting: None,
     })
 }

@@ -1,5 +1,10 @@
-//! Tests of a durable broker: a stop after each call of its disk, and damaged files.
+//! Tests of a durable broker and its journal: a stop after each call of the disk, damaged files,
+//! and the bytes of events.
 #![tactic(auto)]
 
 #[cfg(test)]
 mod crash;
+#[cfg(test)]
+mod journal;
+#[cfg(test)]
+mod record;

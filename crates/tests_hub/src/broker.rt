@@ -3,7 +3,7 @@
 ghost use Rattle.std.specs.Prelude.{◌≡◌, ◌<◌, None, IfOk};
 
 use crate::told::{Happens, Row, all_told, counted, event, listed, told};
-use crate::{dropping, rows, silent};
+use crate::{dropping, expiring, limits, rows, silent};
 use bytes::Bytes;
 use mq_decode::Limits;
 use mq_end::BoxedList;
@@ -34,6 +34,12 @@ pub(crate) struct Kind {
     pub(crate) when_full: WhenFull,
     /// The time in milliseconds within which CONNECT must arrive.
     pub(crate) connect_within: Option<u64>,
+    /// The time in milliseconds after which the session of an absent client ends.
+    pub(crate) session_expiry: Option<u64>,
+    /// The number of bytes that a session may store.
+    pub(crate) most_stored: Option<u64>,
+    /// The number of bytes of pending output with a copy of QoS 0.
+    pub(crate) most_waiting: Option<u64>,
 }
 
 pub(crate) const WIDE: Kind = Kind {
@@ -44,6 +50,9 @@ pub(crate) const WIDE: Kind = Kind {
     has_hashed_user: false,
     when_full: WhenFull::ClosePublisher,
     connect_within: None,
+    session_expiry: None,
+    most_stored: None,
+    most_waiting: None,
 };
 
 const DROPPING: Kind = Kind {
@@ -56,7 +65,7 @@ const DROPPING: Kind = Kind {
 pub(crate) type Table = (&'static str, Kind, &'static [Row]);
 
 /// All tables of rows.
-pub(crate) const TABLES: [Table; 29] = [
+pub(crate) const TABLES: [Table; 35] = [
     ("refused", WIDE, &rows::REFUSED),
     ("routed", WIDE, &rows::ROUTED),
     ("level", WIDE, &rows::LEVEL),
@@ -94,6 +103,55 @@ pub(crate) const TABLES: [Table; 29] = [
             ..WIDE
         },
         &silent::SILENT,
+    ),
+    (
+        "expiring",
+        Kind {
+            session_expiry: Some(1_000),
+            ..WIDE
+        },
+        &expiring::EXPIRING,
+    ),
+    (
+        "stored_dropping",
+        Kind {
+            most_stored: Some(5),
+            when_full: WhenFull::DropCopy,
+            ..WIDE
+        },
+        &limits::STORED_DROPPING,
+    ),
+    (
+        "stored_closing",
+        Kind {
+            most_stored: Some(5),
+            ..WIDE
+        },
+        &limits::STORED_CLOSING,
+    ),
+    (
+        "waiting",
+        Kind {
+            most_waiting: Some(20),
+            ..WIDE
+        },
+        &limits::WAITING,
+    ),
+    (
+        "own_answer",
+        Kind {
+            most_waiting: Some(18),
+            ..WIDE
+        },
+        &limits::OWN_ANSWER,
+    ),
+    (
+        "retained_waiting",
+        Kind {
+            most_waiting: Some(30),
+            ..WIDE
+        },
+        &limits::RETAINED_WAITING,
     ),
     (
         "crowded",
@@ -192,7 +250,18 @@ pub(crate) fn config(alloc: Global, kind: Kind) -> Result<HubConfig, Fail>
         hashed_users: hashed_users(alloc, kind)?,
         when_full: kind.when_full,
         connect_within: kind.connect_within,
+        session_expiry: kind.session_expiry,
+        most_stored: kind.most_stored,
+        most_waiting: kind.most_waiting,
     })
+}
+
+// The number of bytes that an event collects.
+fn pending<S: FilterStore>(hub: &HubOver<S>, event: &HubEvent) -> usize {
+    match event {
+        HubEvent::Collect(conn) => hub.pending(*conn),
+        _ => 0,
+    }
 }
 
 pub(crate) fn answer<S: FilterStore>(
@@ -201,8 +270,10 @@ pub(crate) fn answer<S: FilterStore>(
     happens: Happens,
 ) -> Result<String, Fail> {
     let event = event(alloc, happens)?;
+    let pending = pending(hub, &event);
     match hub.step(&event) {
-        Ok(reply) => told(alloc, &reply),
+        Ok(reply) if reply.output.len() == pending => told(alloc, &reply),
+        Ok(_) => Ok(String::from_str(alloc, "another number of bytes was pending")?),
         Err(why) => Ok(String::from_str(alloc, why.code())?),
     }
 }

@@ -6,7 +6,11 @@ mod broker;
 #[cfg(test)]
 mod dropping;
 #[cfg(test)]
+mod expiring;
+#[cfg(test)]
 mod full;
+#[cfg(test)]
+mod limits;
 #[cfg(test)]
 mod portions;
 #[cfg(test)]

@@ -1,7 +1,8 @@
 //! Pieces of bytes that a broker handles in portions.
 
 use crate::broker::{Kind, TABLES, Table, WIDE, answer, config};
-use crate::told::{Happens, acts, bytes_of, conn, event};
+use crate::told::{Happens, acts, conn, event};
+use bytes::Bytes;
 use mq_hub::{Conn, Hub, HubEvent, HubRefusal, HubReply};
 use std::alloc::Global;
 use std::process::Abort;
@@ -10,9 +11,11 @@ use std::test::Fail;
 // A piece of at most this many packets.
 const MOST_PORTIONS: usize = 10_000;
 
-// A CONNECT without a client identifier, a SUBSCRIBE to `a` and a PUBLISH to it, of quality of
-// service 0.
-const CONNECT: &str = "100c00044d515454040200000000";
+// A CONNECT up to its client identifier of four bytes, a SUBSCRIBE to `a`, and a PUBLISH to it of
+// QoS 0.
+const CONNECT: [u8; 14] = [
+    0x10, 0x10, 0x00, 0x04, 0x4d, 0x51, 0x54, 0x54, 0x04, 0x02, 0x00, 0x00, 0x00, 0x04,
+];
 
 const SUBSCRIBE: &str = "8206000100016100";
 
@@ -101,11 +104,27 @@ fn portions_have_the_acts_of_the_piece(rt: HostRuntime) -> Result<(), Fail> {
     Ok(())
 }
 
+// The decimal digit of a number at a power of ten.
+fn digit(number: u32, power: u32) -> u8 {
+    b'0' + (number / power.max(1) % 10) as u8
+}
+
+// The CONNECT of the client whose identifier is this number.
+fn connect(alloc: Global, nth: u32) -> Result<HubEvent, Fail> {
+    let mut bytes = Vec::new(alloc);
+    bytes.extend_from_slice(&CONNECT)?;
+    for power in [1_000, 100, 10, 1] {
+        bytes.push(digit(nth, power))?;
+    }
+    let piece = Bytes::copy_from_slice(alloc, bytes.as_slice())?;
+    Ok(HubEvent::Bytes(conn(nth), piece))
+}
+
 // Connects clients, each on a connection of its own, that subscribe.
 fn subscribers(alloc: Global, hub: &mut Hub, count: u32) -> Result<(), Fail> {
     for nth in 0..count {
         let _ = answer(alloc, hub, Happens::Opens(nth))?;
-        let _ = answer(alloc, hub, Happens::Sends(nth, CONNECT))?;
+        let _ = hub.step(&connect(alloc, nth)?);
         let _ = answer(alloc, hub, Happens::Sends(nth, SUBSCRIBE))?;
     }
     Ok(())
@@ -129,25 +148,25 @@ fn portion(hub: &mut Hub, piece: &[u8], most_acts: usize) -> Result<(usize, usiz
 
 fn portions(alloc: Global) -> Result<[(usize, usize); 3], Fail> {
     let kind = Kind {
-        max_conns: 100,
-        max_sessions: 100,
+        max_conns: 1_000,
+        max_sessions: 1_000,
         ..WIDE
     };
     let mut hub = Hub::new(alloc, config(alloc, kind)?);
-    subscribers(alloc, &mut hub, 100)?;
+    subscribers(alloc, &mut hub, 1_000)?;
     let piece = publishes(alloc, 2_000)?;
-    let one = portion(&mut hub, piece.as_slice(), 100)?;
-    let two = portion(&mut hub, behind(piece.as_slice(), one.0), 102)?;
+    let one = portion(&mut hub, piece.as_slice(), 1_000)?;
+    let two = portion(&mut hub, behind(piece.as_slice(), one.0), 1_002)?;
     let three = portion(&mut hub, behind(piece.as_slice(), two.0), 0)?;
     Ok([one, two, three])
 }
 
-// A piece of 2,000 messages for 100 clients: a portion ends with the message that reaches its
+// A piece of 2,000 messages for 1,000 clients: a portion ends with the message that reaches its
 // number of acts.
 #[test]
 fn a_portion_ends_with_the_packet_that_reaches_its_acts(rt: HostRuntime) -> Result<(), Fail> {
     let portions = portions(rt.alloc())?;
-    assert_eq!(rt; portions, [(6, 101), (12, 202), (6, 101)]);
+    assert_eq!(rt; portions, [(6, 1_001), (12, 2_002), (6, 1_001)]);
     Ok(())
 }
 

@@ -82,6 +82,9 @@ fn new_loop<'a>(alloc: Global, commits: u32, early: &'a Cell<u32>) -> Result<Loo
         hashed_users: None,
         when_full: WhenFull::ClosePublisher,
         connect_within: None,
+        session_expiry: None,
+        most_stored: None,
+        most_waiting: None,
     };
     let limits = LoopLimits {
         share: 4_096,

@@ -25,6 +25,9 @@ fn new_loop<'a>(alloc: Global, most_owed: usize) -> Result<Loop<'a>, Fail> {
         hashed_users: None,
         when_full: WhenFull::ClosePublisher,
         connect_within: None,
+        session_expiry: None,
+        most_stored: None,
+        most_waiting: None,
     };
     let limits = LoopLimits {
         share: 4_096,
@@ -261,7 +264,7 @@ fn one_full(alloc: Global, count: u32) -> Result<[Pipe; 3], Fail> {
     Ok([slow, other, writer])
 }
 
-// The slow and ended connections if one takes nothing and is owed more than 1,000 bytes.
+// The slow and ended connections if one takes nothing, with a limit of 1,000 pending bytes.
 fn slow_counts(alloc: Global, count: u32) -> Result<(u32, u32), Fail> {
     let bytes = expected(alloc, 84, count)?;
     let pipes = cell_of(alloc, one_full(alloc, count)?)?;
@@ -278,10 +281,10 @@ fn slow_counts(alloc: Global, count: u32) -> Result<(u32, u32), Fail> {
 
 #[test]
 fn a_reader_that_takes_nothing_is_ended(rt: HostRuntime) -> Result<(), Fail> {
-    // Each message counts as 101 bytes.
-    let few = slow_counts(rt.alloc(), 9)?;
+    // Each message is a PUBLISH of 89 bytes.
+    let few = slow_counts(rt.alloc(), 11)?;
     assert_eq!(rt; few, (0, 0));
-    let many = slow_counts(rt.alloc(), 10)?;
+    let many = slow_counts(rt.alloc(), 12)?;
     assert_eq!(rt; many, (1, 1));
     Ok(())
 }

@@ -17,6 +17,9 @@ mqtt_connections 7
 # HELP mqtt_sessions Sessions that are stored.
 # TYPE mqtt_sessions gauge
 mqtt_sessions 8
+# HELP mqtt_subscriptions Subscriptions that are stored.
+# TYPE mqtt_subscriptions gauge
+mqtt_subscriptions 9
 # HELP mqtt_retained_messages Retained messages.
 # TYPE mqtt_retained_messages gauge
 mqtt_retained_messages 10
@@ -147,6 +150,7 @@ fn counted(alloc: Global) -> Result<Metrics, Fail> {
     metrics.set_gauges(Gauges {
         connections: 7,
         sessions: 8,
+        subscriptions: 9,
         retained: 10,
         stored_messages: 11,
         pending_bytes: u64::MAX,

@@ -1,15 +1,19 @@
-//! What a broker does with any bytes.
+//! A broker that takes arbitrary bytes, with the counts of its results.
 
-use crate::hostile::at_ends::CAPACITY;
-use crate::hostile::ledger::{WINDOW, number_of_close};
-use crate::hostile::tally::{ACTS, CLOSES, HUB_REFUSALS, Tally};
+use crate::hostile::tally::Tally;
 use bytes::Bytes;
 use mq_decode::{Limits, PacketView, View, view};
-use mq_hub::{Act, Conn, Hub, HubClose, HubConfig, HubEvent, HubRefusal, HubReply, WhenFull};
+use mq_hub::{Act, Conn, Hub, HubConfig, HubEvent, HubRefusal, HubReply, WhenFull};
 use std::alloc::{AllocError, Global};
 
-/// How many connections there are.
+/// The number of connections.
 pub(crate) const CONNS: usize = 4;
+
+/// The most identifiers in use in a session.
+const CAPACITY: u16 = 4;
+
+/// The most unreleased messages of quality of service 2 in a session.
+const WINDOW: u16 = 3;
 
 /// A broker with its results.
 #[derive(Drop)]
@@ -29,10 +33,8 @@ pub(crate) struct AtHub {
     pub(crate) went: u64,
     /// The acts by kind.
     pub(crate) acts: Tally,
-    /// Why it closed connections.
-    pub(crate) closes: Tally,
-    /// Why it refused events.
-    pub(crate) refusals: Tally,
+    /// The number of refused events.
+    pub(crate) refused: u64,
     /// How many of its answers are none that may come.
     pub(crate) wrong: u64,
 }
@@ -57,6 +59,9 @@ fn new_hub(alloc: Global, limits: Limits) -> Hub {
         hashed_users: None,
         when_full: WhenFull::ClosePublisher,
         connect_within: None,
+        session_expiry: None,
+        most_stored: None,
+        most_waiting: None,
     };
     Hub::new(alloc, config)
 }
@@ -73,17 +78,6 @@ fn number_of(act: &Act) -> usize {
         Act::Closed(_, _) => 8,
         Act::Removed(_) => 9,
         Act::Missed(_, _) => 10,
-    }
-}
-
-/// The number of the code of a reason.
-fn number_of_hub_close(why: HubClose) -> usize {
-    match why {
-        HubClose::Own(why) => number_of_close(why),
-        HubClose::TargetFull => 8,
-        HubClose::TakenOver => 9,
-        HubClose::PeerEnded => 10,
-        HubClose::NoConnect => 12,
     }
 }
 
@@ -116,9 +110,8 @@ impl AtHub {
             came: 0,
             answered: 0,
             went: 0,
-            acts: Tally::new(&ACTS),
-            closes: Tally::new(&CLOSES),
-            refusals: Tally::new(&HUB_REFUSALS),
+            acts: Tally::new(),
+            refused: 0,
             wrong: 0,
         }
     }
@@ -152,10 +145,7 @@ impl AtHub {
             self.acts.count(number_of(act));
             match act {
                 Act::Up(conn, _, _) => self.set_begins(conn.nth as usize, false),
-                Act::Closed(conn, why) => {
-                    self.set_begins(conn.nth as usize, true);
-                    self.closes.count(number_of_hub_close(*why));
-                }
+                Act::Closed(conn, _) => self.set_begins(conn.nth as usize, true),
                 _ => {}
             }
         }
@@ -179,12 +169,7 @@ impl AtHub {
     }
 
     fn refused(&mut self, why: HubRefusal) {
-        let number = match why {
-            HubRefusal::UnknownConn => 1,
-            HubRefusal::ConnInUse => 2,
-            HubRefusal::Memory => 3,
-        };
-        self.refusals.count(number);
+        self.refused = self.refused.saturating_add(1);
         self.expect(why != HubRefusal::Memory);
     }
 

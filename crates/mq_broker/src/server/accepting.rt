@@ -8,7 +8,7 @@ use crate::acceptor::{Accepted, accept};
 use crate::end::BrokerEnd;
 use mio::net::TcpStream;
 use mio::{Interest, Token};
-use mq_loop::NonBlocking;
+use mq_loop::{Broker, NonBlocking};
 use mq_status::Counter;
 use std::io;
 use std::io::Write;
@@ -17,7 +17,7 @@ use std::net::SocketAddr;
 /// The maximum number of connections that are accepted after a round.
 const MOST_ACCEPTS: u32 = 256;
 
-impl<L: Write + Drop> Server<L> {
+impl<B: Broker + Drop, L: Write + Drop> Server<B, L> {
     // Accepts the connections that are pending, up to a number.
     pub(super) fn accept_all(&mut self, now: u64) -> Result<(), BrokerEnd>
         ensures { IfErr result (λ end. end ≢ PacketLimit) }

@@ -4,12 +4,13 @@ use super::Server;
 use crate::rows::rows_of;
 use crate::status_port::{FIRST, LISTENER, SLOTS};
 use mio::{Events, Token};
+use mq_loop::Broker;
 use mq_status::{Gauges, Reply, Resource, Status, write_response};
 use std::alloc::Global;
 use std::io;
 use std::io::Write;
 
-impl<L: Write + Drop> Server<L> {
+impl<B: Broker + Drop, L: Write + Drop> Server<B, L> {
     // Serves the metrics to those that ask for them.
     pub(super) fn answer_requests(&mut self, alloc: Global, events: &Events<Global>) {
         for event in events.iter() {
@@ -64,6 +65,7 @@ impl<L: Write + Drop> Server<L> {
         Gauges {
             connections: self.connections.len() as u64,
             sessions: counts.sessions as u64,
+            subscriptions: counts.subscriptions as u64,
             retained: counts.retained as u64,
             stored_messages: counts.stored,
             pending_bytes,

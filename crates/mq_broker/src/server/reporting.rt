@@ -1,13 +1,13 @@
 //! The log of the rounds.
 
 use super::Server;
-use mq_loop::Report;
+use mq_loop::{Broker, Report};
 use std::io::Write;
 
 /// The time between two lines about missed messages, in milliseconds.
 const MISSED: u64 = 1_000;
 
-impl<L: Write + Drop> Server<L> {
+impl<B: Broker + Drop, L: Write + Drop> Server<B, L> {
     // Writes the reports of a round to the log, and the messages that clients missed.
     pub(super) fn take_reports(&mut self, now: u64) {
         for report in self.connections.take_reports() {

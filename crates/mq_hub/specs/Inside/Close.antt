@@ -8,8 +8,8 @@ use Rattle.mq_route.specs.declared.close.HubClose.{HubClose}
 use Rattle.mq_route.specs.declared.conn.Conn.{Conn}
 use Rattle.mq_route.specs.declared.connection_state.ConnectionState.{ConnectionState}
 use Rattle.mq_route.specs.declared.connection_state.ConnectionState.TheVariants.{AwaitingConnect, ConnectedAs, Closed}
-use Rattle.mq_route.specs.Hub.{HubConnection, end_of, with_end}
-use Rattle.mq_route.specs.Work.{Work, remove_if, said, shut, will_after, with_sessions}
+use Rattle.mq_route.specs.Hub.{HubConnection, end_of, key_on, stage_of, with_end, with_left}
+use Rattle.mq_route.specs.Work.{Work, remove_if, said, shut, shut_down, will_after, with_sessions}
 
 -- an end without connection and pending output
 abbrev pub parted : EndState → EndState
@@ -23,6 +23,10 @@ left_with b x = record x { stage = Closed; held = []; waiting = b }
 -- loses it, and the session ends with it if asked (3.1.2.4).
 unfoldable pub parts : Conn → HubClose → ℕ → Bool → Work → Work
 parts k why key clean w = remove_if clean key (with_sessions (with_end key (over (end_of key w.hub.sessions))) (said (acts.Closed k why) (shut k w)))
+
+-- a connection is closed, and its client's session stores this time as that of the disconnect
+abbrev pub close_at : ℕ → Conn → HubClose → Bool → Work → Work
+close_at now k why fits w = with_sessions (with_left (key_on (stage_of k w.hub.connections)) now) (shut_down k why fits w)
 
 -- the will to publish after that, if any (3.1.2.5, 3.14.4)
 abbrev pub will_left : HubClose → ConnectionState → Option Will

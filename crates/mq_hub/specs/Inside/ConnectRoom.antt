@@ -48,7 +48,7 @@ pub record IsNewSession (c : Connect) (client : List ℕ) (h : HubState) (t : Br
   pub fresh : end.end ≡ new_end h.config
   pub capacity : end.capacity ≡ h.config.capacity
   pub limit : end.limit ≡ h.config.limits
-  pub after : t ≡ record { client = client; key = h.next_key; end = connected_end c h.clock end }
+  pub after : t ≡ record { client = client; key = h.next_key; end = connected_end c h.clock end; left_at = h.clock }
 
 -- the session of a key has room to process this CONNECT on a new connection, then to send these
 -- messages and `more` bytes besides

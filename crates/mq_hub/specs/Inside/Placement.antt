@@ -1,10 +1,11 @@
 -- Placing copies of messages for clients (3.3.5, 3.8.4).
-use Rattle.std.specs.Prelude.{◌≡◌, ⊤, ℕ, ◌-◌, ◌≤◌, ◌==◌, ◌&&◌, Bool, true, false, if◌then◌else◌, List, [], ◌∷◌, ◌++◌, length, map, Some, None, is_some, IfSome, IfNone, Result, Err, OnOk, IfErr}
+use Rattle.std.specs.Prelude.{◌≡◌, ⊤, ℕ, ◌+◌, ◌≤◌, ◌==◌, ◌&&◌, ◌||◌, Bool, true, false, not, if◌then◌else◌, List, [], ◌∷◌, ◌++◌, length, map, Option, Some, None, is_some, IfSome, IfNone, Result, Err, OnOk, IfErr}
 use Rattle.std.specs.List.{AllByRecursion, flat_map, list_any}
 use Rattle.mq_topic.specs.declared.qos.Qos.{Qos}
 use Rattle.mq_packet.specs.declared.message.Message.{Message}
 use Rattle.mq_packet.specs.Encoding.{encodings}
-use Rattle.mq_flow.specs.Sender.{is_full, uses}
+use Rattle.mq_flow.specs.Sender.{is_full}
+use Rattle.mq_flow.specs.Stored.{message_bytes, stored_bytes}
 use Rattle.mq_end.specs.declared.refusal.PublishRefusal.{PublishRefusal}
 use Rattle.mq_end.specs.declared.refusal.PublishRefusal.TheVariants as refusals
 use Rattle.mq_end.specs.Both.{has_identifier}
@@ -19,10 +20,14 @@ use Rattle.mq_route.specs.declared.act.Act.TheVariants as acts
 use Rattle.mq_route.specs.Copies.{copy_by}
 use Rattle.mq_route.specs.declared.config.HubConfig.{HubConfig}
 use Rattle.mq_route.specs.Hub.{HubState, HubConnection, end_of, for_key, up_on}
-use Rattle.mq_route.specs.Work.{drops_copies, publishes_next}
+use Rattle.mq_route.specs.Work.{drops_copies, leaves, publish_bytes, publishes_next}
+use Rattle.mq_hub.specs.declared.publish.rules.CopyRules.{CopyRules}
+use Rattle.mq_hub.specs.declared.publish.rules.QueuedAnswer.{QueuedAnswer}
+use Rattle.mq_hub.specs.declared.publish.space.Space.{Space}
 use Rattle.mq_hub.specs.declared.sessions.session.BrokerSession.{BrokerSession}
 use Rattle.mq_hub.specs.Inside.Invariant.{AreApart as AreLinesApart}
-use Rattle.mq_hub.specs.Inside.View.{HubTables}
+use Rattle.mq_hub.specs.Inside.Rules.{answer_for, skips, space_after}
+use Rattle.mq_hub.specs.Inside.View.{HubTables, output_of}
 use Rattle.mq_hub.specs.Inside.Sessions.{AreAscending, sessions_of, session_at, with_server}
 
 -- ---- what copies there are
@@ -143,48 +148,67 @@ placed_acts cs = map (λ c. acts.Placed c.0 c.1) cs
 
 -- ---- copies that are missed
 
--- a copy that is due is missed (2.3.1)
-abbrev pub misses : HubConfig → List BrokerSession → ℕ × Message → Bool
-misses config ts c = drops_copies config.when_full && (has_identifier c.1.qos && is_full config.capacity (end_of c.0 (sessions_of ts)).book)
+-- the copy has QoS 1 or 2, and its client's session has no room for it (2.3.1)
+abbrev pub is_short : HubConfig → List BrokerSession → ℕ × Message → Bool
+is_short config ts c =
+    has_identifier c.1.qos
+    && (is_full config.capacity (end_of c.0 (sessions_of ts)).book
+    || not (leaves config.most_stored (stored_bytes (end_of c.0 (sessions_of ts)).book) (message_bytes c.1)))
+
+-- the copy has QoS 0, and the pending output of its client may not have its bytes after this number
+-- of bytes is queued
+abbrev pub is_cut : Option ℕ → ℕ → List BrokerSession → ℕ × Message → Bool
+is_cut most_waiting queued ts c =
+    not (leaves most_waiting (queued + length (output_of c.0 ts)) (publish_bytes c.1)) && not (has_identifier c.1.qos)
+
+-- a copy that is due is missed; `queued`: the number of bytes that are queued for each client first
+abbrev pub misses : HubConfig → (ℕ → ℕ) → List BrokerSession → ℕ × Message → Bool
+misses config queued ts c =
+    (drops_copies config.when_full && is_short config ts c) || is_cut config.most_waiting (queued c.0) ts c
 
 -- the copies that are placed, if these are due one after another
-abbrev pub kept_copies : HubConfig → List (ℕ × Message) → List BrokerSession → List (ℕ × Message)
-kept_copies config [] ts = []
-kept_copies config (c ∷ cs) ts = if misses config ts c then kept_copies config cs ts else c ∷ kept_copies config cs (placed_at c.0 c.1 ts)
+abbrev pub kept_copies : HubConfig → (ℕ → ℕ) → List (ℕ × Message) → List BrokerSession → List (ℕ × Message)
+kept_copies config queued [] ts = []
+kept_copies config queued (c ∷ cs) ts =
+    if misses config queued ts c then kept_copies config queued cs ts
+    else c ∷ kept_copies config queued cs (placed_at c.0 c.1 ts)
 
 -- the acts that report them as placed or missed
-abbrev pub settled_acts : HubConfig → List (ℕ × Message) → List BrokerSession → List Act
-settled_acts config [] ts = []
-settled_acts config (c ∷ cs) ts =
-    if misses config ts c then acts.Missed c.0 c.1 ∷ settled_acts config cs ts
-    else acts.Placed c.0 c.1 ∷ settled_acts config cs (placed_at c.0 c.1 ts)
+abbrev pub settled_acts : HubConfig → (ℕ → ℕ) → List (ℕ × Message) → List BrokerSession → List Act
+settled_acts config queued [] ts = []
+settled_acts config queued (c ∷ cs) ts =
+    if misses config queued ts c then acts.Missed c.0 c.1 ∷ settled_acts config queued cs ts
+    else acts.Placed c.0 c.1 ∷ settled_acts config queued cs (placed_at c.0 c.1 ts)
 
--- the first of these messages for which this number of identifiers suffices (2.3.1)
-abbrev pub first_fitting : ℕ → List Message → List Message
-first_fitting free [] = []
-first_fitting free (m ∷ ms) =
-    if has_identifier m.qos && free == 0 then first_fitting free ms
-    else m ∷ first_fitting (if has_identifier m.qos then free - 1 else free) ms
+-- the messages for a connected client that are placed one after another, in this space
+abbrev pub first_fitting : CopyRules → Space → List Message → List Message
+first_fitting rules space [] = []
+first_fitting rules space (m ∷ ms) =
+    if skips rules space m then first_fitting rules space ms else m ∷ first_fitting rules (space_after m space) ms
 
--- the acts that report them and the other ones, for a client
-abbrev pub fitting_acts : ℕ → ℕ → List Message → List Act
-fitting_acts key free [] = []
-fitting_acts key free (m ∷ ms) =
-    if has_identifier m.qos && free == 0 then acts.Missed key m ∷ fitting_acts key free ms
-    else acts.Placed key m ∷ fitting_acts key (if has_identifier m.qos then free - 1 else free) ms
-
--- the number of free identifiers of a session (2.3.1)
-abbrev pub free_of : EndState → ℕ
-free_of s = s.capacity - length (uses s.end.book)
+-- the acts that report them and the other ones
+abbrev pub fitting_acts : CopyRules → ℕ → Space → List Message → List Act
+fitting_acts rules key space [] = []
+fitting_acts rules key space (m ∷ ms) =
+    if skips rules space m then acts.Missed key m ∷ fitting_acts rules key space ms
+    else acts.Placed key m ∷ fitting_acts rules key (space_after m space) ms
 
 -- the sender's book of each client's end is the same
 abbrev pub HaveSameBooks : List BrokerSession → List BrokerSession → Type 0
 HaveSameBooks old new = (key : ℕ) → (end_of key (sessions_of new)).book ≡ (end_of key (sessions_of old)).book
 
+-- the answer was queued for its client, and nothing for the others
+abbrev pub HaveQueued : Option QueuedAnswer → List BrokerSession → List BrokerSession → Type 0
+HaveQueued answer old new = (key : ℕ) → length (output_of key new) ≡ answer_for answer key + length (output_of key old)
+
+-- the client of each copy of QoS 0 is connected (4.3.1)
+abbrev pub AreHeard : List HubConnection → List (ℕ × Message) → Type 0
+AreHeard xs copies = AllByRecursion (λ c. has_identifier c.1.qos ≡ false → is_some (up_on c.0 xs) ≡ true) copies
+
 -- Copies that are due are settled: which of them are placed, and the acts that report all of them.
-pub record Settles (config : HubConfig) (ts : List BrokerSession) (due placed : List (ℕ × Message)) (report : List Act) : Type 0 where
-  pub kept : placed ≡ kept_copies config due ts
-  pub says : report ≡ settled_acts config due ts
+pub record Settles (config : HubConfig) (queued : ℕ → ℕ) (ts : List BrokerSession) (due placed : List (ℕ × Message)) (report : List Act) : Type 0 where
+  pub kept : placed ≡ kept_copies config queued due ts
+  pub says : report ≡ settled_acts config queued due ts
 
 -- What placing requires of the tables: keys ascend, names of connections are distinct, and each
 -- client is connected on at most one connection.

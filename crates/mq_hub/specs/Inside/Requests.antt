@@ -6,10 +6,10 @@ use Rattle.mq_packet.specs.declared.packet.Request.{Request}
 use Rattle.mq_end.specs.declared.packet_outcome.PacketOutcome.{PacketOutcome}
 use Rattle.mq_route.specs.declared.act.Act.{Act}
 use Rattle.mq_route.specs.declared.config.HubConfig.{HubConfig}
-use Rattle.mq_route.specs.declared.config.WhenFull.{WhenFull}
 use Rattle.mq_route.specs.Arrives.{granted}
 use Rattle.mq_route.specs.Hub.{for_key}
 use Rattle.mq_route.specs.Work.{retained_copies}
+use Rattle.mq_hub.specs.declared.publish.rules.CopyRules.{CopyRules}
 use Rattle.mq_hub.specs.declared.sessions.call.Call.{Call}
 use Rattle.mq_hub.specs.declared.sessions.call.Call.TheVariants.{Grants}
 use Rattle.mq_hub.specs.declared.sessions.session.BrokerSession.{BrokerSession}
@@ -18,6 +18,7 @@ use Rattle.mq_hub.specs.Inside.Placement.{placed_all, AreSameButRoom, IsReadyAt,
 use Rattle.mq_hub.specs.Inside.Invariant.{HubInvariant}
 use Rattle.mq_hub.specs.Inside.View.{HubTables}
 use Rattle.mq_hub.specs.Inside.Subscriptions.{with_rows}
+use Rattle.mq_hub.specs.Inside.Rules.{rules_of}
 
 -- The tables are the same, except for the room of their sessions.
 pub record AreAlike (old new : HubTables) : Type 0 where
@@ -38,13 +39,13 @@ pub record Answers (key : ℕ) (call : Call) (set : List Row) (old new : HubTabl
   pub connections : new.connections ≡ old.connections
 
 -- The tables after a SUBSCRIBE: its rows are set, SUBACK is queued, and then the retained messages
--- are settled, as the policy says. These messages are placed, and these acts report all.
-pub record Subscribes (key : ℕ) (id : ℕ) (requests : List Request) (policy : WhenFull) (old new : HubTables) (says : List Act) : Type 0 where
+-- are settled, as the rules say. These messages are placed, and these acts report all.
+pub record Subscribes (key : ℕ) (id : ℕ) (requests : List Request) (rules : CopyRules) (old new : HubTables) (says : List Act) : Type 0 where
   pub between : HubTables
   pub answers : Answers key (Grants id (granted requests)) (with_rows key requests old.rows) old between
   pub messages : List Message
-  pub settles : (config : HubConfig) (next_key : ℕ) → config.when_full ≡ policy → HubInvariant config next_key between
-      → Settles config between.sessions.list (retained_copies key requests old.retained.messages) (for_key key messages) says
+  pub settles : (config : HubConfig) (next_key : ℕ) → rules_of config ≡ rules → HubInvariant config next_key between
+      → Settles config (λ k. 0) between.sessions.list (retained_copies key requests old.retained.messages) (for_key key messages) says
   pub ready : IsReadyAt key messages 0 between.sessions.list
   pub list : new.sessions.list ≡ placed_all (for_key key messages) between.sessions.list
   pub rows : new.rows ≡ between.rows

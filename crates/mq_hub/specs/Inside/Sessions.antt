@@ -12,7 +12,7 @@ pub record SessionTable : Type 0 where
 
 -- a session as the broker's definition sees it
 abbrev pub session_of : BrokerSession → HubSession
-session_of t = record { client = t.client; key = t.key; end = t.end.end }
+session_of t = record { client = t.client; key = t.key; end = t.end.end; left = t.left_at }
 
 abbrev pub sessions_of : List BrokerSession → List HubSession
 sessions_of ts = map session_of ts
@@ -29,6 +29,14 @@ served_by key e t = if t.key == key then record t { end = e } else t
 -- the sessions, that of a key with another end
 abbrev pub with_server : ℕ → EndState → List BrokerSession → List BrokerSession
 with_server key e ts = map (served_by key e) ts
+
+-- the same session; if it has this key, its client last disconnected at this time
+abbrev pub marking : ℕ → ℕ → BrokerSession → BrokerSession
+marking key now t = if t.key == key then record t { left_at = now } else t
+
+-- the sessions, that of a key with this time as that of its client's last disconnect
+abbrev pub marked_at : ℕ → ℕ → List BrokerSession → List BrokerSession
+marked_at key now ts = map (marking key now) ts
 
 -- the sessions without that of a key
 abbrev pub without_key : ℕ → List BrokerSession → List BrokerSession

@@ -2,15 +2,16 @@
 use Rattle.std.specs.Prelude.{◌≡◌, ℕ, ◌≤◌, Bool, List}
 use Rattle.mq_route.specs.declared.act.Act.{Act}
 use Rattle.mq_route.specs.declared.config.HubConfig.{HubConfig}
-use Rattle.mq_route.specs.declared.config.WhenFull.{WhenFull}
 use Rattle.mq_route.specs.declared.conn.Conn.{Conn}
 use Rattle.mq_route.specs.declared.connection_state.ConnectionState.TheVariants.{AwaitingConnect}
 use Rattle.mq_route.specs.Hub.{key_of, stage_of}
 use Rattle.mq_route.specs.Work.{Work}
+use Rattle.mq_hub.specs.declared.publish.rules.CopyRules.{CopyRules}
 use Rattle.mq_hub.specs.Inside.Refinement.{Refines}
 use Rattle.mq_hub.specs.Inside.Invariant.{HubInvariant}
 use Rattle.mq_hub.specs.Inside.View.{HubTables, hub_of}
 use Rattle.mq_hub.specs.Inside.Sessions.{sessions_of}
+use Rattle.mq_hub.specs.Inside.Rules.{rules_of}
 
 -- These are the tables of a broker.
 pub record AreHubTables (t : HubTables) : Type 0 where
@@ -25,11 +26,11 @@ pub record Spares (old new : HubTables) : Type 0 where
   pub room : old.sessions.room ≤ new.sessions.room
   pub clients : (n : List ℕ) → key_of n (sessions_of new.sessions.list) ≡ key_of n (sessions_of old.sessions.list)
 
--- The step makes a change, with memory for a will or without, in a broker with this policy for
+-- The step makes a change, with memory for a will or without, in a broker with these rules for
 -- copies without room. A connection that waits for its CONNECT still does, and no reserved room for
 -- a session or a connection is lost.
-pub record Proceeds (policy : WhenFull) (change : Bool → Work → Work) (old : HubTables) (said : List Act) (new : HubTables) (says : List Act) : Type 0 where
-  pub goes : (config : HubConfig) (clock next_key : ℕ) → HubInvariant config next_key old → config.when_full ≡ policy
+pub record Proceeds (rules : CopyRules) (change : Bool → Work → Work) (old : HubTables) (said : List Act) (new : HubTables) (says : List Act) : Type 0 where
+  pub goes : (config : HubConfig) (clock next_key : ℕ) → HubInvariant config next_key old → rules_of config ≡ rules
       → (fits : Bool) × Refines (change fits) (hub_of config clock next_key old) said (hub_of config clock next_key new) says
   pub keeps : (config : HubConfig) (next_key : ℕ) → HubInvariant config next_key old → HubInvariant config next_key new
   pub room : old.sessions.room ≤ new.sessions.room

@@ -6,7 +6,7 @@ use Rattle.mq_route.specs.declared.close.HubClose.{HubClose}
 use Rattle.mq_route.specs.declared.conn.Conn.{Conn}
 use Rattle.mq_route.specs.Hub.{HubState, HubConnection}
 use Rattle.mq_route.specs.Step.{Ticks}
-use Rattle.mq_route.specs.Work.{Work, begin}
+use Rattle.mq_route.specs.Work.{Work}
 use Rattle.mq_hub.specs.Inside.Alarms.{is_late_on, is_named, why_late}
 
 -- the name of a connection and why it is closed, if it is late at this time
@@ -31,10 +31,14 @@ abbrev pub HasLateBut : Option ℕ → ℕ → List HubConnection → List Conn 
 HasLateBut within now xs names places =
     (i : ℕ) (x : HubConnection) → slice_get xs i ≡ Some x → is_late_on within now x.since x.stage ≡ true → is_named x.conn names ≡ false → Contains places i
 
--- Closing the late connections at the beginning of a step leads from `old` to `new` with these
--- acts.
-pub record TicksTo (now : ℕ) (old new : HubState) (acts : List Act) : Type 0 where
+-- Closing the late connections leads from `start` to `new` with these acts.
+pub record TicksFrom (within : Option ℕ) (now : ℕ) (start : Work) (new : HubState) (acts : List Act) : Type 0 where
   pub work : Work
-  pub ticks : Ticks old.config.connect_within now old.connections (begin old) work
+  pub ticks : Ticks within now start.hub.connections start work
   pub hub : new ≡ work.hub
   pub did : acts ≡ work.did
+
+-- If a step has led to the broker `old` and the acts `said`, then closing the late connections
+-- leads to `new` and `says`.
+abbrev pub TicksTo : ℕ → HubState → List Act → HubState → List Act → Type 0
+TicksTo now old said new says = (start : Work) → start.hub ≡ old → start.did ≡ said → TicksFrom old.config.connect_within now start new says

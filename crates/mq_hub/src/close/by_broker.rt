@@ -7,6 +7,7 @@ ghost use Rattle.mq_hub.specs.Inside.Refinement.{Refines};
 
 use crate::acts::ActLog;
 use crate::hub::HubOver;
+use crate::publish::rules::rules_of;
 use mq_route::{Act, Conn, HubClose};
 use mq_topic::FilterStore;
 
@@ -34,9 +35,12 @@ impl<S: FilterStore> HubOver<S> {
         ensures room { log.old.room ≤ log.new.room + 3 }
     {
         match self.key(conn) {
-            Some(key) => self
-                .tables
-                .close_up(self.alloc, self.config.when_full, conn, key, why, log),
+            Some(key) => {
+                let rules = rules_of(&self.config);
+                let now = self.clock;
+                self.tables
+                    .close_up(self.alloc, rules, conn, key, why, now, log);
+            }
             None => self.close_idle(conn, why, log),
         }
     }

@@ -2,16 +2,17 @@
 
 ghost use Rattle.std.specs.Prelude.{◌≡◌, ◌+◌, ◌≤◌, ◌<◌, ℕ, List, true, false, Some, None};
 ghost use Rattle.mq_route.specs.Hub.{is_clean, key_of, key_on, stage_of, up_on};
-ghost use Rattle.mq_route.specs.Work.{close};
-ghost use Rattle.mq_hub.specs.Inside.Close.{parts, will_left};
+ghost use Rattle.mq_hub.specs.Inside.Close.{close_at, parts, will_left};
 ghost use Rattle.mq_hub.specs.Inside.TableSteps.{AreHubTables, Proceeds};
 ghost use Rattle.mq_hub.specs.Inside.Sessions.{sessions_of};
+ghost use Rattle.mq_hub.specs.declared.publish.rules.CopyRules.{CopyRules};
 
 use crate::acts::ActLog;
+use crate::publish::rules::CopyRules;
 use crate::tables::Tables;
 use mq_end::CloseReason;
 use mq_packet::Will;
-use mq_route::{Act, Conn, ConnectionState, ConnectionTerms, HubClose, WhenFull};
+use mq_route::{Act, Conn, ConnectionState, ConnectionTerms, HubClose};
 use mq_topic::{ClientKey, FilterStore};
 use std::alloc::Global;
 
@@ -44,7 +45,7 @@ impl<S: FilterStore> Tables<S> {
         requires up { key_on (stage_of conn self.old.connections.connections) ≡ Some key }
         requires clean { is_clean (stage_of conn self.old.connections.connections) ≡ false }
         requires room { 0 < log.old.room }
-        ensures proceeds { (policy : WhenFull) → Proceeds policy (λ fits. parts conn why key false) self.old log.old.acts self.new log.new.acts }
+        ensures proceeds { (rules : CopyRules) → Proceeds rules (λ fits. parts conn why key false) self.old log.old.acts self.new log.new.acts }
         ensures will { result ≡ will_left why (stage_of conn self.old.connections.connections) }
         ensures away { up_on key self.new.connections.connections ≡ None }
         ensures clients { (n : List ℕ) → key_of n (sessions_of self.new.sessions.list) ≡ key_of n (sessions_of self.old.sessions.list) }
@@ -68,7 +69,7 @@ impl<S: FilterStore> Tables<S> {
         requires up { key_on (stage_of conn self.old.connections.connections) ≡ Some key }
         requires clean { is_clean (stage_of conn self.old.connections.connections) ≡ true }
         requires room { 1 < log.old.room }
-        ensures proceeds { (policy : WhenFull) → Proceeds policy (λ fits. parts conn why key true) self.old log.old.acts self.new log.new.acts }
+        ensures proceeds { (rules : CopyRules) → Proceeds rules (λ fits. parts conn why key true) self.old log.old.acts self.new log.new.acts }
         ensures will { result ≡ will_left why (stage_of conn self.old.connections.connections) }
         ensures away { up_on key self.new.connections.connections ≡ None }
         ensures gone { (n : List ℕ) → key_of n (sessions_of self.old.sessions.list) ≡ Some key
@@ -95,7 +96,7 @@ impl<S: FilterStore> Tables<S> {
         requires hubs { AreHubTables self.old }
         requires up { key_on (stage_of conn self.old.connections.connections) ≡ Some key }
         requires room { 1 < log.old.room }
-        ensures proceeds { (policy : WhenFull) → Proceeds policy (λ fits. parts conn why key (is_clean (stage_of conn self.old.connections.connections)))
+        ensures proceeds { (rules : CopyRules) → Proceeds rules (λ fits. parts conn why key (is_clean (stage_of conn self.old.connections.connections)))
             self.old log.old.acts self.new log.new.acts }
         ensures will { result ≡ will_left why (stage_of conn self.old.connections.connections) }
         ensures away { up_on key self.new.connections.connections ≡ None }
@@ -113,21 +114,22 @@ impl<S: FilterStore> Tables<S> {
     }
 
     /// Closes a connection on which a client is connected (4.8). Ends its session if clean session
-    /// was 1 (3.1.2.4), then publishes its will or reports it as dropped (3.1.2.5). Room reserved
-    /// for sessions and connections stays reserved.
+    /// was 1 (3.1.2.4), then publishes its will or reports it as dropped (3.1.2.5). The session
+    /// stores the time `now`. Room reserved for sessions and connections stays reserved.
     pub(crate) fn close_up(
         &mut self,
         alloc: Global,
-        when_full: WhenFull,
+        rules: CopyRules,
         conn: Conn,
         key: ClientKey,
         why: HubClose,
+        now: u64,
         log: &mut ActLog,
     )
         requires hubs { AreHubTables self.old }
         requires up { key_on (stage_of conn self.old.connections.connections) ≡ Some key }
         requires room { 3 ≤ log.old.room }
-        ensures proceeds { Proceeds when_full (close conn why) self.old log.old.acts self.new log.new.acts }
+        ensures proceeds { Proceeds rules (close_at now conn why) self.old log.old.acts self.new log.new.acts }
         ensures away { up_on key self.new.connections.connections ≡ None }
         ensures clients { is_clean (stage_of conn self.old.connections.connections) ≡ false
             → (n : List ℕ) → key_of n (sessions_of self.new.sessions.list) ≡ key_of n (sessions_of self.old.sessions.list) }
@@ -136,6 +138,7 @@ impl<S: FilterStore> Tables<S> {
         ensures room { log.old.room ≤ log.new.room + 3 }
     {
         let will = self.leave(alloc, conn, key, why, log);
-        self.last_will(alloc, when_full, key, will, log);
+        self.last_will(alloc, rules, key, will, log);
+        self.mark_left(key, now);
     }
 }

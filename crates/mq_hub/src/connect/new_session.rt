@@ -95,7 +95,13 @@ impl<S: FilterStore> HubOver<S> {
         let key = self.next_key();
         let mut end = self.blank();
         connect_with_room(&mut end, connect, self.clock)?;
-        BoxedSession::new(self.alloc, BrokerSession { client, key, end })
+        let session = BrokerSession {
+            client,
+            key,
+            end,
+            left_at: self.clock,
+        };
+        BoxedSession::new(self.alloc, session)
     }
 
     /// Returns a session of this client with the next key, whose end has processed the CONNECT.

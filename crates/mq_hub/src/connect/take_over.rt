@@ -7,6 +7,7 @@ ghost use Rattle.mq_route.specs.declared.close.HubClose.TheVariants.{TakenOver};
 ghost use Rattle.mq_route.specs.Hub.{is_clean, key_of, key_on, stage_of, up_on};
 ghost use Rattle.mq_route.specs.Welcome.{ends_with};
 ghost use Rattle.mq_route.specs.Work.{close, remove_if};
+ghost use Rattle.mq_hub.specs.Inside.Close.{close_at};
 ghost use Rattle.mq_hub.specs.Inside.Refinement.{Refines};
 ghost use Rattle.mq_hub.specs.Inside.Invariant.{IsWillWithin};
 ghost use Rattle.mq_hub.specs.Inside.TableSteps.{AreHubTables, Proceeds};
@@ -14,9 +15,10 @@ ghost use Rattle.mq_hub.specs.Inside.Sessions.{sessions_of};
 
 use crate::acts::ActLog;
 use crate::hub::HubOver;
+use crate::publish::rules::{CopyRules, rules_of};
 use crate::tables::Tables;
 use mq_packet::{BoxedConnect, Connect};
-use mq_route::{Act, Conn, ConnectionState, HubClose, WhenFull};
+use mq_route::{Act, Conn, ConnectionState, HubClose};
 use mq_topic::{ClientKey, FilterStore};
 use mq_wire::Text;
 use std::alloc::{AllocError, Global};
@@ -33,22 +35,23 @@ impl<S: FilterStore> Tables<S> {
     fn take_over_ending(
         &mut self,
         alloc: Global,
-        when_full: WhenFull,
+        rules: CopyRules,
         conn: Conn,
         key: ClientKey,
+        now: u64,
         log: &mut ActLog,
     )
         requires hubs { AreHubTables self.old }
         requires up { key_on (stage_of conn self.old.connections.connections) ≡ Some key }
         requires room { 4 ≤ log.old.room }
-        ensures proceeds { Proceeds when_full (λ fits w. remove_if (not (is_clean (stage_of conn self.old.connections.connections))) key (close conn TakenOver fits w))
+        ensures proceeds { Proceeds rules (λ fits w. remove_if (not (is_clean (stage_of conn self.old.connections.connections))) key (close_at now conn TakenOver fits w))
             self.old log.old.acts self.new log.new.acts }
         ensures gone { (n : List ℕ) → key_of n (sessions_of self.old.sessions.list) ≡ Some key
             → key_of n (sessions_of self.new.sessions.list) ≡ None }
         ensures room { log.old.room ≤ log.new.room + 4 }
     {
         let ends = self.is_clean(conn);
-        self.close_up(alloc, when_full, conn, key, HubClose::TakenOver, log);
+        self.close_up(alloc, rules, conn, key, HubClose::TakenOver, now, log);
         if !ends {
             self.remove(key);
             log.push(Act::Removed(key));
@@ -101,9 +104,9 @@ impl<S: FilterStore> HubOver<S> {
         let beginning = self.beginning(connect, client)?;
         log.reserve_more(5)?;
         self.tables.reserve_session()?;
-        let when_full = self.config.when_full;
+        let rules = rules_of(&self.config);
         self.tables
-            .take_over_ending(self.alloc, when_full, other, key, log);
+            .take_over_ending(self.alloc, rules, other, key, self.clock, log);
         self.tables.begin(conn, beginning, self.clock);
         self.next_key += 1;
         log.push(Act::Up(conn, next, false));

@@ -11,7 +11,7 @@ ghost use Rattle.mq_route.specs.Hub.{is_clean, key_on, stage_of, up_on, with_con
 ghost use Rattle.mq_route.specs.Work.{close};
 ghost use Rattle.mq_hub.specs.Inside.Refinement.{Refines};
 ghost use Rattle.mq_hub.specs.Inside.Invariant.{IsWillWithin};
-ghost use Rattle.mq_hub.specs.Inside.Close.{left_with, parts, will_left};
+ghost use Rattle.mq_hub.specs.Inside.Close.{close_at, left_with, parts, will_left};
 ghost use Rattle.mq_hub.specs.Inside.Placement.{AreSameButRoom, AreStillReady};
 ghost use Rattle.mq_hub.specs.Inside.TableSteps.{AreHubTables, Proceeds};
 ghost use Rattle.mq_hub.specs.Inside.ConnectRoom.{left, will_messages, HasConnectRoomAt, HasConnected};
@@ -22,10 +22,11 @@ use crate::close::disconnect::will_left;
 use crate::connect::resume::terms_of;
 use crate::hub::HubOver;
 use crate::publish::recipients::will_message;
+use crate::publish::rules::{CopyRules, rules_of};
 use crate::tables::Tables;
 use mq_end::ByteQueue;
 use mq_packet::{BoxedConnect, Connect, Message, Will};
-use mq_route::{Act, Conn, ConnectionState, ConnectionTerms, HubClose, WhenFull};
+use mq_route::{Act, Conn, ConnectionState, ConnectionTerms, HubClose};
 use mq_topic::{ClientKey, FilterStore};
 use std::alloc::{AllocError, Global};
 
@@ -167,7 +168,7 @@ impl<S: FilterStore> Tables<S> {
         requires lasts { is_clean (stage_of conn self.old.connections.connections) ≡ false }
         requires waiting { IfSome (session_at key self.old.sessions.list) (λ t. waiting ≡ t.end.output) }
         requires room { 0 < log.old.room }
-        ensures proceeds { (policy : WhenFull) → Proceeds policy (λ fits. parts conn TakenOver key false) self.old log.old.acts self.new log.new.acts }
+        ensures proceeds { (rules : CopyRules) → Proceeds rules (λ fits. parts conn TakenOver key false) self.old log.old.acts self.new log.new.acts }
         ensures will { result ≡ will_left TakenOver (stage_of conn self.old.connections.connections) }
         ensures away { up_on key self.new.connections.connections ≡ None }
         ensures limits { self.new.connections.limits ≡ self.old.connections.limits }
@@ -185,10 +186,11 @@ impl<S: FilterStore> Tables<S> {
     fn take_over_keeping(
         &mut self,
         alloc: Global,
-        when_full: WhenFull,
+        rules: CopyRules,
         conn: Conn,
         key: ClientKey,
         waiting: ByteQueue,
+        now: u64,
         log: &mut ActLog,
     )
         requires hubs { AreHubTables self.old }
@@ -196,7 +198,7 @@ impl<S: FilterStore> Tables<S> {
         requires lasts { is_clean (stage_of conn self.old.connections.connections) ≡ false }
         requires waiting { IfSome (session_at key self.old.sessions.list) (λ t. waiting ≡ t.end.output) }
         requires room { 2 ≤ log.old.room }
-        ensures proceeds { Proceeds when_full (close conn TakenOver) self.old log.old.acts self.new log.new.acts }
+        ensures proceeds { Proceeds rules (close_at now conn TakenOver) self.old log.old.acts self.new log.new.acts }
         ensures away { up_on key self.new.connections.connections ≡ None }
         ensures connect_end { (c : Connect) → self.old.connections.limits.packets.most < 2 ^ 28
             → HasConnectRoomAt c key (will_messages (will_left TakenOver (stage_of conn self.old.connections.connections))) 0 self.old.sessions.list
@@ -204,7 +206,8 @@ impl<S: FilterStore> Tables<S> {
         ensures room { log.old.room ≤ log.new.room + 2 }
     {
         let will = self.leave_with(conn, key, waiting, log);
-        self.last_will(alloc, when_full, key, will, log);
+        self.last_will(alloc, rules, key, will, log);
+        self.mark_left(key, now);
     }
 }
 
@@ -240,11 +243,12 @@ impl<S: FilterStore> HubOver<S> {
         log.reserve_more(3)?;
         self.tables
             .reserve_connect(key, connect.as_connect(), messages.as_slice())?;
-        let when_full = self.config.when_full;
+        let rules = rules_of(&self.config);
+        let now = self.clock;
         self.tables
-            .take_over_keeping(self.alloc, when_full, other, key, waiting, log);
+            .take_over_keeping(self.alloc, rules, other, key, waiting, now, log);
         self.tables
-            .resume_when_ready(conn, key, connect, terms, self.clock);
+            .resume_when_ready(conn, key, connect, terms, now);
         log.push(Act::Up(conn, key, true));
         Ok(())
     }

@@ -1,6 +1,6 @@
 //! The pending output of a connection (4.2).
 
-ghost use Rattle.std.specs.Prelude.{◌≡◌, true, IfOk, IfErr, OnOk, OnErr};
+ghost use Rattle.std.specs.Prelude.{◌≡◌, length, true, IfOk, IfErr, OnOk, OnErr};
 ghost use Rattle.mq_route.specs.Hub.{is_open, knows, new_end, stage_of, waiting_on};
 ghost use Rattle.mq_route.specs.Step.{HubStep, collected};
 
@@ -38,6 +38,16 @@ impl<S: FilterStore> HubOver<S> {
             window: self.config.window,
         };
         ServerEnd::new(self.alloc, config)
+    }
+
+    /// Returns the number of bytes of the pending output of a connection (4.2). 0 if it is unknown.
+    pub fn pending(&self, conn: Conn) -> usize
+        ensures { result ≡ length (waiting_on conn self.now.connections) }
+    {
+        match self.tables.key(conn) {
+            Some(key) => self.tables.sessions.pending(key),
+            None => self.tables.connections.own_pending(conn),
+        }
     }
 
     // Takes the pending output of a connection without copying it.

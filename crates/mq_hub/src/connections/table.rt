@@ -414,6 +414,16 @@ impl Connections {
         boxed.swap_decoder(decoder);
     }
 
+    /// Returns the number of pending output bytes of a connection on which no client is connected.
+    pub(crate) fn own_pending(&self, conn: Conn) -> usize
+        ensures { result ≡ length (waiting_on conn self.now.connections) }
+    {
+        match self.by_conn.get(&conn) {
+            Some(boxed) => boxed.connection().waiting.len(),
+            None => 0,
+        }
+    }
+
     /// Takes the pending output of a connection without copying it.
     pub(crate) fn collect(&mut self, conn: Conn) -> Result<Bytes, AllocError>
         requires { knows conn self.old.connections ≡ true }

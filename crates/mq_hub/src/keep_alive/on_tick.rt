@@ -4,7 +4,7 @@ ghost use Rattle.std.specs.Prelude.{◌≡◌, ◌+◌, ◌*◌, ◌≤◌, ◌^
 ghost use Rattle.std.specs.List.Sorted.{IsNonDecreasing};
 ghost use Rattle.mq_end.specs.KeepAlive.{is_late};
 ghost use Rattle.mq_route.specs.Hub.{knows};
-ghost use Rattle.mq_route.specs.Step.{HubStep, has_passed, told};
+ghost use Rattle.mq_route.specs.Step.{HubStep, told};
 ghost use Rattle.mq_hub.specs.Inside.Connections.{connection_of};
 ghost use Rattle.mq_hub.specs.Deadline.{IsIdleBefore};
 ghost use Rattle.mq_hub.specs.Inside.Tick.{AreInTime, HasLate, TicksTo, late_of};
@@ -12,6 +12,7 @@ ghost use Rattle.mq_hub.specs.Inside.Tick.{AreInTime, HasLate, TicksTo, late_of}
 use crate::acts::ActLog;
 use crate::connections::connection::Connection;
 use crate::hub::HubOver;
+use crate::keep_alive::expiry::has_passed;
 use mq_end::CloseReason;
 use mq_route::{Conn, ConnectionState, HubClose, HubEvent, HubRefusal, HubReply};
 use mq_topic::FilterStore;
@@ -24,16 +25,6 @@ fn is_late(last_activity: u64, keep_alive: u16, now: u64) -> bool
 {
     let wait = 1_500 * u64::from(keep_alive);
     wait > 0 && now > last_activity && now - last_activity > wait
-}
-
-// Whether more time than the limit has passed since this time. `None` is no limit.
-fn has_passed(within: Option<u64>, since: u64, now: u64) -> bool
-    ensures { result ≡ has_passed within since now }
-{
-    match within {
-        Some(within) => now > since && now - since > within,
-        None => false,
-    }
 }
 
 // The name of a connection and the reason to close it, if it is late at this time.
@@ -54,15 +45,17 @@ fn late(within: Option<u64>, connection: &Connection, now: u64) -> Option<(Conn,
     }
 }
 
-// Makes room for the acts of closing this number of connections.
-fn reserve_closes(log: &mut ActLog, count: usize) -> Result<(), AllocError>
-    ensures ok { OnOk result (3 * count ≤ log.new.room) }
+// Makes room for the acts of removing this number of sessions and closing this number of
+// connections.
+fn reserve_acts(log: &mut ActLog, sessions: usize, connections: usize) -> Result<(), AllocError>
+    ensures ok { OnOk result (sessions + 3 * connections ≤ log.new.room) }
     ensures same { log.new.acts ≡ log.old.acts }
 {
-    let Some(room) = count.checked_mul(3) else {
+    let Some(room) = connections.checked_mul(3) else {
         return Err(AllocError);
     };
-    log.reserve(room)
+    log.reserve(room)?;
+    log.reserve_more(sessions)
 }
 
 impl<S: FilterStore> HubOver<S> {
@@ -102,11 +95,10 @@ impl<S: FilterStore> HubOver<S> {
     // Closes the late connections one after another, in the order in which they were opened. Their
     // indices must be among `places`.
     fn close_late(&mut self, now: u64, places: &[usize], log: &mut ActLog)
-        requires none { log.old.acts ≡ [] }
         requires late { HasLate self.old.config.connect_within now self.old.connections places.now }
         requires ascending { IsNonDecreasing places.now }
         requires room { 3 * length places.now ≤ log.old.room }
-        ensures ticks { TicksTo now self.old self.new log.new.acts }
+        ensures ticks { TicksTo now self.old log.old.acts self.new log.new.acts }
         ensures all { AreInTime self.old.config.connect_within now self.new.connections }
     {
         let within = self.config.connect_within;
@@ -119,7 +111,9 @@ impl<S: FilterStore> HubOver<S> {
     }
 
     /// Returns the first time, in milliseconds, at which a `Tick` may close a connection because of
-    /// its keep-alive (3.1.2.10), or because it sent no CONNECT (3.1). `None` if no time can.
+    /// its keep-alive (3.1.2.10), or because it sent no CONNECT (3.1), or remove a session
+    /// (3.1.2.4). `None` if no time can. The call looks at every session if
+    /// [`HubConfig::session_expiry`](mq_route::HubConfig) is set.
     ///
     /// The result may be too early, because the connection that it is for has sent packets since or
     /// is closed. A `Tick` at that time then closes nothing and moves the result on. Steps change
@@ -128,12 +122,15 @@ impl<S: FilterStore> HubOver<S> {
         ensures idle { IfSome result (λ deadline. IsIdleBefore deadline self.now) }
         ensures never { IfNone result (IsIdleBefore (2 ^ 64) self.now) }
     {
-        self.tables.connections.in_time_until().checked_add(1)
+        let kept_until = self.tables.kept_until(self.config.session_expiry);
+        let in_time_until = self.tables.connections.in_time_until();
+        in_time_until.min(kept_until).checked_add(1)
     }
 
     /// Sets the clock to this time, in milliseconds. Closes each connection whose client sent no
     /// packet for more than one and a half times its keep-alive (3.1.2.10), and each that sent no
-    /// CONNECT in time (3.1). Reserves the memory for all of these closes before the first one.
+    /// CONNECT in time (3.1). Before that, removes each session whose client is not connected and
+    /// disconnected too long ago (3.1.2.4). Reserves all memory before anything changes.
     pub(crate) fn on_tick(&mut self, now: u64) -> Result<HubReply, HubRefusal>
         ensures step { IfOk result (λ reply. HubStep self.old (HubEvent.Tick now) reply self.new) }
         ensures memory { IfErr result (λ why. why ≡ HubRefusal.Memory) }
@@ -141,13 +138,17 @@ impl<S: FilterStore> HubOver<S> {
     {
         let clock = self.clock_at(now);
         let mut log = ActLog::new(self.alloc);
+        let Ok(expired) = self.expired(clock) else {
+            return Err(HubRefusal::Memory);
+        };
         let Ok(places) = self.late_places(clock) else {
             return Err(HubRefusal::Memory);
         };
-        if reserve_closes(&mut log, places.len()).is_err() {
+        if reserve_acts(&mut log, expired.len(), places.len()).is_err() {
             return Err(HubRefusal::Memory);
         }
         self.set_clock(now);
+        self.remove_all(expired.as_slice(), &mut log);
         self.close_late(clock, places.as_slice(), &mut log);
         Ok(log.into_reply(true))
     }

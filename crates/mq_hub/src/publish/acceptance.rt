@@ -1,12 +1,13 @@
 //! Has the end of a publisher process its PUBLISH (3.3, 4.3).
 
-ghost use Rattle.std.specs.Prelude.{◌≡◌, ℕ, List, true, None, OnOk, OnErr};
+ghost use Rattle.std.specs.Prelude.{◌≡◌, ℕ, List, true, None, Some, OnOk, OnErr};
 ghost use Rattle.mq_packet.specs.declared.message.Message.{Message};
 ghost use Rattle.mq_packet.specs.Publication.{fits_delivery};
 ghost use Rattle.mq_route.specs.Hub.{end_of};
 ghost use Rattle.mq_hub.specs.Inside.Requests.{AreAlike, Answers};
 ghost use Rattle.mq_hub.specs.Inside.Calls.{CanServe, publish_call, reply_of};
-ghost use Rattle.mq_hub.specs.Inside.Placement.{AreReady, HaveSameBooks};
+ghost use Rattle.mq_hub.specs.Inside.Placement.{AreReady, HaveQueued, HaveSameBooks};
+ghost use Rattle.mq_hub.specs.Inside.Rules.{publish_answer};
 ghost use Rattle.mq_hub.specs.Inside.Sessions.{sessions_of};
 
 use crate::tables::Tables;
@@ -33,6 +34,7 @@ impl<S: FilterStore> Tables<S> {
         ensures ready { OnOk result ((copies : List (ℕ × Message)) → AreReady 7 self.old.sessions.list copies
             → AreReady 0 self.new.sessions.list copies) }
         ensures books { OnOk result (HaveSameBooks self.old.sessions.list self.new.sessions.list) }
+        ensures outputs { OnOk result (HaveQueued (Some (publish_answer key delivery)) self.old.sessions.list self.new.sessions.list) }
         ensures err { OnErr result (AreAlike self.old self.new) }
     {
         let _ = self.sessions.take_publish(key, now, message, delivery)?;

@@ -9,14 +9,16 @@ ghost use Rattle.mq_route.specs.Work.{deliver, have_room};
 ghost use Rattle.mq_hub.specs.Inside.Refinement.{Refines};
 ghost use Rattle.mq_hub.specs.Inside.Placement.{placed_all, with_retained, with_list, AreApart, AreFor, AreReady, AreSameButRoom, AreStillReady, CanPlace, HasSessions, Settles};
 ghost use Rattle.mq_hub.specs.Inside.Retained.{IsKeptOf};
+ghost use Rattle.mq_hub.specs.Inside.Rules.{answer_for, rules_of};
 ghost use Rattle.mq_hub.specs.Inside.View.{HubTables, hub_of};
 
 use crate::acts::ActLog;
 use crate::publish::enqueue::{PlannedCopy, make_room, place_all, push_placed};
+use crate::publish::rules::{CopyRules, QueuedAnswer};
 use crate::publish::settle::{SettledCopies, settle};
 use crate::retained::{Retained, RetainedEntry};
 use crate::sessions::table::Sessions;
-use mq_route::{Act, WhenFull};
+use mq_route::Act;
 use std::alloc::{AllocError, Global};
 use std::mem;
 
@@ -44,23 +46,25 @@ pub(crate) fn push_all(log: &mut ActLog, acts: Vec<Act>)
 
 impl DeliveryPlan {
     /// Makes room in each subscriber's session for its copy, and for `more` bytes besides, and
-    /// prepares the acts. If a session has no free identifier for its copy (2.3.1), the copy is
-    /// dropped from the plan, or `false` is returned, as `when_full` says.
+    /// prepares the acts. Copies that are missed are dropped from the plan. The answer is queued
+    /// before the copies. Returns `false` if a session has no room for its copy (2.3.1) and the
+    /// rules do not drop it.
     #[inline(always)]
     pub(crate) fn make_room(
         &mut self,
         alloc: Global,
         sessions: &mut Sessions,
-        when_full: WhenFull,
+        rules: CopyRules,
+        answer: Option<QueuedAnswer>,
         more: usize,
     ) -> Result<bool, AllocError>
         requires apart { AreApart self.old.copies.items }
         requires due { AreFor sessions.old.list self.old.copies.items }
         requires acts { self.old.acts.items ≡ [] }
-        ensures enough { IfOk result (λ enough. (h : HubState) → HasSessions sessions.old.list h → h.config.when_full ≡ when_full
+        ensures enough { IfOk result (λ enough. (h : HubState) → HasSessions sessions.old.list h → rules_of h.config ≡ rules
             → enough ≡ have_room self.old.copies.items h) }
-        ensures settles { result ≡ Ok true → (h : HubState) → HasSessions sessions.old.list h → h.config.when_full ≡ when_full
-            → Settles h.config sessions.old.list self.old.copies.items self.new.copies.items self.new.acts.items }
+        ensures settles { result ≡ Ok true → (h : HubState) → HasSessions sessions.old.list h → rules_of h.config ≡ rules
+            → Settles h.config (answer_for answer) sessions.old.list self.old.copies.items self.new.copies.items self.new.acts.items }
         ensures apart { result ≡ Ok true → AreApart self.new.copies.items }
         ensures ready { result ≡ Ok true → AreReady more sessions.new.list self.new.copies.items }
         ensures count { result ≡ Ok true → length self.new.acts.items ≡ length self.old.copies.items }
@@ -69,18 +73,18 @@ impl DeliveryPlan {
         ensures still { AreStillReady sessions.old.list sessions.new.list }
         ensures room { sessions.new.room ≡ sessions.old.room }
     {
-        match when_full {
-            WhenFull::ClosePublisher => {
-                push_placed(&mut self.acts, self.copies.as_slice())?;
-                make_room(sessions, self.copies.as_slice(), more)
-            }
-            WhenFull::DropCopy => {
-                let copies = mem::replace(&mut self.copies, Vec::new(alloc));
-                let SettledCopies { kept, acts } = settle(alloc, sessions, copies, more)?;
+        if !rules.may_miss() {
+            push_placed(&mut self.acts, self.copies.as_slice())?;
+            return make_room(sessions, rules.most_stored, self.copies.as_slice(), more);
+        }
+        let copies = mem::replace(&mut self.copies, Vec::new(alloc));
+        match settle(alloc, sessions, rules, answer, copies, more)? {
+            Some(SettledCopies { kept, acts }) => {
                 self.copies = kept;
                 self.acts = acts;
                 Ok(true)
             }
+            None => Ok(false),
         }
     }
 
@@ -101,7 +105,7 @@ impl DeliveryPlan {
         requires room { length self.acts.items < log.old.room }
         ensures goes { (m : Message) (config : HubConfig) (clock : ℕ) (next_key : ℕ) (t : HubTables) → IsKeptOf m self.kept
             → t.sessions.list ≡ sessions.old.list → t.retained.messages ≡ retained.old.messages → CanPlace t
-            → Settles config sessions.old.list (copies_of m (hub_of config clock next_key t)) self.copies.items self.acts.items
+            → Settles config (λ k. 0) sessions.old.list (copies_of m (hub_of config clock next_key t)) self.copies.items self.acts.items
             → Refines (deliver act m) (hub_of config clock next_key t) log.old.acts
             (hub_of config clock next_key (with_list sessions.new.list (with_retained retained.new.messages t))) log.new.acts }
         ensures retained { (m : Message) → IsKeptOf m self.kept → retained.new.messages ≡ kept m retained.old.messages }

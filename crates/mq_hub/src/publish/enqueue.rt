@@ -10,14 +10,13 @@ ghost use Rattle.mq_end.specs.Sizes.{publish_size};
 ghost use Rattle.mq_hub.specs.Inside.Refinement.{Refines};
 ghost use Rattle.mq_hub.specs.Inside.Invariant.{HubInvariant};
 ghost use Rattle.mq_hub.specs.Inside.Placement.{copies_found, is_among, placed_all, AreApart, AreFor, AreReady, AreSameButRoom, AreStillReady, AreUpAlike, Settles};
-ghost use Rattle.mq_hub.specs.Inside.Placement.{placed_acts, with_list, CanPlace, HasSessions, IsFor, IsReadyAt};
+ghost use Rattle.mq_hub.specs.Inside.Placement.{placed_acts, with_list, AreHeard, CanPlace, HasSessions, IsFor, IsReadyAt};
 ghost use Rattle.mq_hub.specs.Inside.View.{HubTables, hub_of};
 
 use crate::connections::table::Connections;
 use crate::publish::recipients::{copy_by, is_hidden_name};
 use crate::retained::Retained;
 use crate::sessions::table::Sessions;
-use mq_end::PublishRefusal;
 use mq_packet::{Message, Request};
 use mq_route::Act;
 use mq_topic::{ClientKey, FilterStore, Qos};
@@ -91,48 +90,53 @@ pub(crate) fn retained_copies(
 }
 
 /// Makes room in the session of a client for messages, and for `more` bytes besides their
-/// PUBLISHes. Returns `false` if the session has too few free identifiers (2.3.1). The room that
-/// other sessions have stays.
+/// PUBLISHes. Returns `false` if the session has too few free identifiers (2.3.1), or may not store
+/// the messages' bytes. The room that other sessions have stays.
 pub(crate) fn make_room_for(
     sessions: &mut Sessions,
+    most_stored: Option<u64>,
     key: ClientKey,
     messages: &[Message],
     more: usize,
 ) -> Result<bool, AllocError>
     requires { IsFor key messages.now sessions.old.list }
     ensures enough { IfOk result (λ enough. (cs : List (ℕ × Message)) (h : HubState) → HasSessions sessions.old.list h
-        → is_among key cs ≡ false → all_fit (for_key key messages.now ++ cs) h ≡ (enough && all_fit cs h)) }
+        → h.config.most_stored ≡ most_stored → is_among key cs ≡ false → all_fit (for_key key messages.now ++ cs) h ≡ (enough && all_fit cs h)) }
     ensures one { IfOk result (λ enough. (m : Message) (h : HubState) → HasSessions sessions.old.list h
-        → messages.now ≡ m ∷ [] → lacks_room key m h ≡ not enough) }
+        → h.config.most_stored ≡ most_stored → messages.now ≡ m ∷ [] → lacks_room key m h ≡ not enough) }
     ensures ready { result ≡ Ok true → IsReadyAt key messages.now more sessions.new.list }
     ensures same { AreSameButRoom sessions.old.list sessions.new.list }
     ensures still { AreStillReady sessions.old.list sessions.new.list }
     ensures room { sessions.new.room ≡ sessions.old.room }
 {
+    if !sessions.has_room(key, most_stored, messages) {
+        return Ok(false);
+    }
     match sessions.ready(key, messages, more) {
         Ok(()) => Ok(true),
-        Err(PublishRefusal::Full) => Ok(false),
         Err(_) => Err(AllocError),
     }
 }
 
 /// Makes room in each subscriber's session for its copy, and for `more` bytes besides. Returns
-/// `false` if a session has no free identifier for its copy (2.3.1).
+/// `false` if a session has no room for its copy (2.3.1).
 pub(crate) fn make_room(
     sessions: &mut Sessions,
+    most_stored: Option<u64>,
     copies: &[PlannedCopy],
     more: usize,
 ) -> Result<bool, AllocError>
     requires apart { AreApart copies.now }
     requires due { AreFor sessions.old.list copies.now }
-    ensures enough { IfOk result (λ enough. (h : HubState) → HasSessions sessions.old.list h → enough ≡ all_fit copies.now h) }
+    ensures enough { IfOk result (λ enough. (h : HubState) → HasSessions sessions.old.list h → h.config.most_stored ≡ most_stored
+        → enough ≡ all_fit copies.now h) }
     ensures ready { result ≡ Ok true → AreReady more sessions.new.list copies.now }
     ensures same { AreSameButRoom sessions.old.list sessions.new.list }
     ensures still { AreStillReady sessions.old.list sessions.new.list }
     ensures room { sessions.new.room ≡ sessions.old.room }
 {
     for due in copies {
-        if !make_room_for(sessions, due.0, slice::from_ref(&due.1), more)? {
+        if !make_room_for(sessions, most_stored, due.0, slice::from_ref(&due.1), more)? {
             return Ok(false);
         }
     }
@@ -166,7 +170,7 @@ fn publish_all(sessions: &mut Sessions, copies: Vec<PlannedCopy>)
 pub(crate) fn place_for(sessions: &mut Sessions, key: ClientKey, messages: Vec<Message>)
     requires { IsReadyAt key messages.items 0 sessions.old.list }
     ensures goes { (config : HubConfig) (clock : ℕ) (next_key : ℕ) (t : HubTables) (said says : List Act) (due : List (ℕ × Message))
-        → t.sessions.list ≡ sessions.old.list → CanPlace t → Settles config sessions.old.list due (for_key key messages.items) says
+        → t.sessions.list ≡ sessions.old.list → CanPlace t → AreHeard t.connections.connections due → Settles config (λ k. 0) sessions.old.list due (for_key key messages.items) says
         → Refines (place_all due) (hub_of config clock next_key t) said (hub_of config clock next_key (with_list sessions.new.list t)) (said ++ says) }
     ensures list { sessions.new.list ≡ placed_all (for_key key messages.items) sessions.old.list }
     ensures room { sessions.new.room ≡ sessions.old.room }
@@ -179,7 +183,7 @@ pub(crate) fn place_all(sessions: &mut Sessions, copies: Vec<PlannedCopy>)
     requires apart { AreApart copies.items }
     requires ready { AreReady 0 sessions.old.list copies.items }
     ensures goes { (config : HubConfig) (clock : ℕ) (next_key : ℕ) (t : HubTables) (said says : List Act) (due : List (ℕ × Message))
-        → t.sessions.list ≡ sessions.old.list → CanPlace t → Settles config sessions.old.list due copies.items says
+        → t.sessions.list ≡ sessions.old.list → CanPlace t → AreHeard t.connections.connections due → Settles config (λ k. 0) sessions.old.list due copies.items says
         → Refines (place_all due) (hub_of config clock next_key t) said (hub_of config clock next_key (with_list sessions.new.list t)) (said ++ says) }
     ensures list { sessions.new.list ≡ placed_all copies.items sessions.old.list }
     ensures room { sessions.new.room ≡ sessions.old.room }

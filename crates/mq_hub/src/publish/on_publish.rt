@@ -16,6 +16,7 @@ ghost use Rattle.mq_hub.specs.Inside.Reception.{IsReceived};
 use crate::acts::ActLog;
 use crate::hub::HubOver;
 use crate::publish::reception::Reception;
+use crate::publish::rules::{publish_answer, rules_of};
 use mq_end::CloseReason;
 use mq_packet::{Packet, Publish};
 use mq_route::{Act, Conn, HubClose};
@@ -27,8 +28,8 @@ const ACKNOWLEDGEMENT: usize = 7;
 
 impl<S: FilterStore> HubOver<S> {
     // Takes a PUBLISH whose message is new: the publisher's end answers, and the message is
-    // delivered. If a session has no free identifier for its copy (2.3.1), the copy is missed, or
-    // `false` is returned, with nothing changed, as the configuration says.
+    // delivered. If a session has no room for its copy (2.3.1), the copy is missed, or `false` is
+    // returned, with nothing changed, as the configuration says.
     #[inline(always)]
     fn on_publish(
         &mut self,
@@ -55,10 +56,11 @@ impl<S: FilterStore> HubOver<S> {
         let delivery = publish.delivery();
         let message = publish.into_message();
         let mut plan = self.tables.plan_delivery(self.alloc, &message)?;
-        let when_full = self.config.when_full;
+        let rules = rules_of(&self.config);
+        let answer = Some(publish_answer(key, delivery));
         if !self
             .tables
-            .reserve_delivery(self.alloc, when_full, &mut plan, ACKNOWLEDGEMENT, log)?
+            .reserve_delivery(self.alloc, rules, answer, &mut plan, ACKNOWLEDGEMENT, log)?
         {
             return Ok(false);
         }
@@ -67,8 +69,8 @@ impl<S: FilterStore> HubOver<S> {
         Ok(true)
     }
 
-    // Takes a PUBLISH whose message is new. If a session has no free identifier for its copy
-    // (2.3.1), the copy is missed, or the connection is closed, as the configuration says.
+    // Takes a PUBLISH whose message is new. If a session has no room for its copy (2.3.1), the copy
+    // is missed, or the connection is closed, as the configuration says.
     #[inline(always)]
     fn take_handed(
         &mut self,
@@ -97,7 +99,7 @@ impl<S: FilterStore> HubOver<S> {
 
     /// Handles a PUBLISH (3.3): its message is delivered and the publisher's end answers. Closes
     /// the connection if the identifier does not fit the receive window, or if a session has no
-    /// free identifier for its copy (2.3.1) and the configuration says so.
+    /// room for its copy (2.3.1) and the configuration says so.
     #[inline(always)]
     pub(crate) fn take_publish(
         &mut self,

@@ -10,16 +10,18 @@ ghost use Rattle.mq_hub.specs.Inside.Refinement.{Refines};
 ghost use Rattle.mq_hub.specs.Inside.Invariant.{HubInvariant};
 ghost use Rattle.mq_hub.specs.Inside.Placement.{placed_all, AreFor, AreStillReady, HasSessions, Settles};
 ghost use Rattle.mq_hub.specs.Inside.Retained.{IsKeptOf};
+ghost use Rattle.mq_hub.specs.Inside.Rules.{answer_for, rules_of};
 ghost use Rattle.mq_hub.specs.Inside.View.{hub_of};
 ghost use Rattle.mq_hub.specs.Inside.DeliveryPlan.{AreTablesAlike, IsPlanned, IsReserved};
 
 use crate::acts::ActLog;
 use crate::publish::delivery::DeliveryPlan;
 use crate::publish::enqueue::copies_of;
+use crate::publish::rules::{CopyRules, QueuedAnswer};
 use crate::retained::to_retain;
 use crate::tables::Tables;
 use mq_packet::Message;
-use mq_route::{Act, WhenFull};
+use mq_route::Act;
 use mq_topic::FilterStore;
 use std::alloc::{AllocError, Global};
 
@@ -48,24 +50,26 @@ impl<S: FilterStore> Tables<S> {
     }
 
     /// Makes room for a planned delivery: among the retained messages, in the sessions of the
-    /// subscribers (with `more` bytes besides), and for its acts. If a session has no free
-    /// identifier for its copy (2.3.1), the copy is dropped from the plan, or `false` is returned,
-    /// as `when_full` says. Otherwise nothing but reserved capacity changes, also on `Err`.
+    /// subscribers (with `more` bytes besides), and for its acts. The answer is queued before the
+    /// copies. Copies that are missed are dropped from the plan. Returns `false` if a session has
+    /// no room for its copy (2.3.1) and the rules do not drop it. Nothing but the plan and reserved
+    /// capacity changes, also on `Err`.
     #[inline(always)]
     pub(crate) fn reserve_delivery(
         &mut self,
         alloc: Global,
-        when_full: WhenFull,
+        rules: CopyRules,
+        answer: Option<QueuedAnswer>,
         plan: &mut DeliveryPlan,
         more: usize,
         log: &mut ActLog,
     ) -> Result<bool, AllocError>
         requires planned { IsPlanned plan.old }
         requires due { AreFor self.old.sessions.list plan.old.copies.items }
-        ensures enough { IfOk result (λ enough. (h : HubState) → HasSessions self.old.sessions.list h → h.config.when_full ≡ when_full
+        ensures enough { IfOk result (λ enough. (h : HubState) → HasSessions self.old.sessions.list h → rules_of h.config ≡ rules
             → enough ≡ have_room plan.old.copies.items h) }
-        ensures settles { result ≡ Ok true → (h : HubState) → HasSessions self.old.sessions.list h → h.config.when_full ≡ when_full
-            → Settles h.config self.old.sessions.list plan.old.copies.items plan.new.copies.items plan.new.acts.items }
+        ensures settles { result ≡ Ok true → (h : HubState) → HasSessions self.old.sessions.list h → rules_of h.config ≡ rules
+            → Settles h.config (answer_for answer) self.old.sessions.list plan.old.copies.items plan.new.copies.items plan.new.acts.items }
         ensures ready { result ≡ Ok true → IsReserved more plan.new self.new log.new.room }
         ensures left { result ≡ Ok true → log.old.room + length plan.new.acts.items < log.new.room }
         ensures kept { plan.new.kept ≡ plan.old.kept }
@@ -77,7 +81,7 @@ impl<S: FilterStore> Tables<S> {
     {
         self.retained.reserve(1)?;
         log.reserve_more(plan.copies.len() + 1)?;
-        plan.make_room(alloc, &mut self.sessions, when_full, more)
+        plan.make_room(alloc, &mut self.sessions, rules, answer, more)
     }
 
     /// Delivers a message for which room was reserved, after an act that reports it as taken or as
@@ -86,7 +90,7 @@ impl<S: FilterStore> Tables<S> {
     pub(crate) fn deliver(&mut self, act: Act, plan: DeliveryPlan, log: &mut ActLog)
         requires ready { IsReserved 0 plan self.old log.old.room }
         ensures goes { (m : Message) (config : HubConfig) (clock next_key : ℕ) → IsKeptOf m plan.kept → HubInvariant config next_key self.old
-            → Settles config self.old.sessions.list (copies_of m (hub_of config clock next_key self.old)) plan.copies.items plan.acts.items
+            → Settles config (λ k. 0) self.old.sessions.list (copies_of m (hub_of config clock next_key self.old)) plan.copies.items plan.acts.items
             → Refines (deliver act m) (hub_of config clock next_key self.old) log.old.acts
             (hub_of config clock next_key self.new) log.new.acts }
         ensures keeps { (m : Message) (config : HubConfig) (next_key : ℕ) → IsKeptOf m plan.kept → HubInvariant config next_key self.old

@@ -1,6 +1,7 @@
 //! One session.
 
-ghost use Rattle.std.specs.Prelude.{◌≡◌, ℕ, List, [], ◌∷◌, length, true, IfOk, OnOk};
+ghost use Rattle.std.specs.Prelude.{◌≡◌, ◌&&◌, ℕ, List, [], ◌∷◌, length, nat_le, true, IfOk, OnOk};
+ghost use Rattle.std.specs.List.{AllByRecursion};
 ghost use Rattle.mq_end.specs.End.{is_up};
 ghost use Rattle.mq_end.specs.Ready.{HasRise, HasRoom};
 ghost use Rattle.mq_packet.specs.declared.connect.Connect.{Connect};
@@ -11,14 +12,16 @@ ghost use Rattle.mq_hub.specs.Inside.Calls.{IsAllowed, Serves, publish_call};
 ghost use Rattle.mq_hub.specs.Inside.Numbers.{stored_at};
 ghost use Rattle.mq_hub.specs.Inside.Output.{Collects};
 ghost use Rattle.mq_hub.specs.Inside.Close.{parted};
-ghost use Rattle.mq_hub.specs.Inside.Placement.{free_of, published, IsReady, Readies};
+ghost use Rattle.mq_hub.specs.Inside.Placement.{published, IsReady, MayGo, Readies};
+ghost use Rattle.mq_hub.specs.Inside.Rules.{bytes_of, count_of, fits_left, free_of, has_room};
 ghost use Rattle.mq_hub.specs.Inside.ConnectRoom.{left, connected_end};
 
 use crate::connect::resume::connect_end;
+use crate::publish::space::{fits_left, has_identifier, left_of, stored_left};
 use crate::sessions::call::{Call, serve, take_publish};
 use bytes::Bytes;
 use mq_end::{ByteQueue, PacketOutcome, PublishOutcome, PublishRefusal, ServerEnd};
-use mq_flow::{Sender, next_laws};
+use mq_flow::{Sender, message_bytes, next_laws};
 use mq_packet::{BoxedConnect, Connect, Delivery, Message, encoding_laws};
 use mq_topic::ClientKey;
 use mq_wire::Text;
@@ -35,6 +38,8 @@ pub(crate) struct BrokerSession {
     pub(crate) key: ClientKey,
     /// The end that serves the client.
     pub(crate) end: ServerEnd,
+    /// The time at which the client last disconnected, in milliseconds.
+    pub(crate) left_at: u64,
 }
 
 /// A boxed session, so that moving it within the table is cheap.
@@ -83,6 +88,14 @@ impl BoxedSession {
     {
         let session = &mut *self.session;
         mem::swap(&mut session.end, end);
+    }
+
+    /// Stores this time as that of the client's last disconnect.
+    pub(crate) fn mark_left(&mut self, now: u64)
+        ensures { self.new ≡ record self.old { left_at = now } }
+    {
+        let session = &mut *self.session;
+        session.left_at = now;
     }
 }
 
@@ -203,6 +216,36 @@ pub(crate) fn free_of(end: &ServerEnd) -> usize
         Some(session) => session.sender.left(),
         None => 0,
     }
+}
+
+// Whether messages fit in a number of free identifiers, and in a number of bytes to be stored.
+fn fits(free: usize, stored: Option<u64>, messages: &[Message]) -> bool
+    ensures { result ≡ (nat_le (count_of messages.now) free && fits_left stored (bytes_of messages.now)) }
+{
+    let mut unused = free;
+    let mut left = stored;
+    for message in messages {
+        if has_identifier(message) {
+            if unused == 0 {
+                return false;
+            }
+            let bytes = message_bytes(message);
+            if !fits_left(left, bytes) {
+                return false;
+            }
+            unused -= 1;
+            left = left_of(left, bytes);
+        }
+    }
+    true
+}
+
+/// Whether an end has room for messages that it may send: enough free identifiers (2.3.1), and it
+/// may store their bytes.
+pub(crate) fn has_room(end: &ServerEnd, most_stored: Option<u64>, messages: &[Message]) -> bool
+    ensures { AllByRecursion (λ m. MayGo m end.now) messages.now → result ≡ has_room most_stored messages.now end.now }
+{
+    fits(free_of(end), stored_left(end, most_stored), messages)
 }
 
 /// Returns the number of messages that an end stores (4.3); 0 if it has no session.

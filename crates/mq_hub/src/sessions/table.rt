@@ -2,7 +2,7 @@
 
 ghost use Rattle.std.specs.Prelude.{◌≡◌, ◌+◌, ◌-◌, ◌^◌, ◌≤◌, ◌<◌, ℕ, List, [], ◌∷◌, ◌++◌, true, Some, None, length, map, min, nat_lt, slice_get, vec_capacity, if◌then◌else◌, OnOk, OnErr, IfOk, IsSome, IfSome};
 ghost use Rattle.std.specs.HashMap.{get, spare};
-ghost use Rattle.std.specs.List.{prefix_len};
+ghost use Rattle.std.specs.List.{AllByRecursion, prefix_len};
 ghost use Rattle.std.specs.Str.{bytes_eq};
 ghost use Rattle.std.specs.Option.{option_copied};
 ghost use Rattle.mq_route.specs.Hub.{key_of};
@@ -14,12 +14,16 @@ ghost use Rattle.mq_hub.specs.Inside.Calls.{CanServe, ServesAt, publish_call};
 ghost use Rattle.mq_hub.specs.Inside.Numbers.{all_stored};
 ghost use Rattle.mq_hub.specs.Inside.Output.{CollectsAt};
 ghost use Rattle.mq_hub.specs.Inside.Close.{parted};
-ghost use Rattle.mq_hub.specs.Inside.Placement.{free_of, placed_at, AreSameButRoom, AreStillReady, IsReadyAt, ReadiesAt};
+ghost use Rattle.mq_hub.specs.Inside.View.{output_of};
+ghost use Rattle.mq_hub.specs.Inside.Placement.{placed_at, AreSameButRoom, AreStillReady, IsReadyAt, MayGo, ReadiesAt};
+ghost use Rattle.mq_hub.specs.Inside.Rules.{has_room, left_of, space_of};
 ghost use Rattle.mq_hub.specs.Inside.ConnectRoom.{left, connected_end, HasConnectRoomAt, IsEnlarged};
-ghost use Rattle.mq_hub.specs.Inside.Sessions.{sessions_of, session_at, with_server, without_key, AreBelow, AreAscending};
+ghost use Rattle.mq_hub.specs.Inside.Sessions.{marked_at, sessions_of, session_at, with_server, without_key, AreBelow, AreAscending};
 
+use crate::publish::rules::CopyRules;
+use crate::publish::space::{NO_SPACE, Space, space_of, waiting_left};
 use crate::sessions::call::Call;
-use crate::sessions::session::{BoxedSession, BrokerSession, free_of, stored_of};
+use crate::sessions::session::{BoxedSession, BrokerSession, has_room, stored_of};
 use bytes::Bytes;
 use mq_end::{ByteQueue, PacketOutcome, PublishOutcome, PublishRefusal, ServerEnd};
 use mq_packet::{BoxedConnect, Connect, Delivery, Message};
@@ -105,6 +109,22 @@ fn session_in(list: &[BoxedSession], key: ClientKey) -> Option<&BrokerSession>
     }
 }
 
+// Whether the session of a key has room for messages.
+fn has_room_in(
+    list: &[BoxedSession],
+    key: ClientKey,
+    most_stored: Option<u64>,
+    messages: &[Message],
+) -> bool
+    requires { AreAscending list.now }
+    ensures { IfSome (session_at key list.now) (λ t. AllByRecursion (λ m. MayGo m t.end) messages.now → result ≡ has_room most_stored messages.now t.end) }
+{
+    match session_in(list, key) {
+        Some(session) => has_room(&session.end, most_stored, messages),
+        None => false,
+    }
+}
+
 // Exchanges the end of a session for another.
 fn swap_at(list: &mut [BoxedSession], key: ClientKey, end: &mut ServerEnd)
     requires ascending { AreAscending list.old }
@@ -125,6 +145,16 @@ fn detach_at(list: &mut [BoxedSession], key: ClientKey, output: &mut ByteQueue)
 {
     let at = place(list, key);
     list[at].detach(output);
+}
+
+// The session of a key stores this time as that of its client's last disconnect.
+fn mark_left_at(list: &mut [BoxedSession], key: ClientKey, now: u64)
+    requires ascending { AreAscending list.old }
+    requires there { IsSome (session_at key list.old) }
+    ensures { list.new ≡ marked_at key now list.old }
+{
+    let at = place(list, key);
+    list[at].mark_left(now);
 }
 
 fn take_at(list: &mut Vec<BoxedSession>, key: ClientKey) -> Option<BrokerSession>
@@ -171,6 +201,12 @@ impl Sessions {
         self.list.len()
     }
 
+    pub(crate) fn as_slice(&self) -> &[BoxedSession]
+        ensures { result.now ≡ self.now.list }
+    {
+        self.list.as_slice()
+    }
+
     pub(crate) fn reserve(&mut self, count: usize) -> Result<(), AllocError>
         ensures ok { OnOk result (count ≤ self.new.room) }
         ensures same { self.new.list ≡ self.old.list }
@@ -187,12 +223,53 @@ impl Sessions {
         self.keys.get(client).copied()
     }
 
-    /// Returns the number of free identifiers of a client's session (2.3.1).
-    pub(crate) fn free(&self, key: ClientKey) -> usize
-        ensures { IfSome (session_at key self.now.list) (λ t. t.end.end.known ≡ true → result ≡ free_of t.end) }
+    /// Returns the room of a client's session, after this number of bytes is queued.
+    pub(crate) fn space(&self, key: ClientKey, rules: CopyRules, queued: usize) -> Space
+        ensures { IfSome (session_at key self.now.list) (λ t. t.end.end.known ≡ true → result ≡ space_of rules queued t.end) }
     {
         match self.get(key) {
-            Some(session) => free_of(&session.end),
+            Some(session) => space_of(&session.end, rules, queued),
+            None => NO_SPACE,
+        }
+    }
+
+    /// Whether a client's session has room for messages: enough free identifiers (2.3.1), and it
+    /// may store their bytes.
+    pub(crate) fn has_room(
+        &self,
+        key: ClientKey,
+        most_stored: Option<u64>,
+        messages: &[Message],
+    ) -> bool
+        ensures room { IfSome (session_at key self.now.list) (λ t. AllByRecursion (λ m. MayGo m t.end) messages.now → result ≡ has_room most_stored messages.now t.end) }
+        ensures ascending { AreAscending self.now.list }
+    {
+        has_room_in(self.list.as_slice(), key, most_stored, messages)
+    }
+
+    /// Returns the number of further pending output bytes of a client's session, after this number
+    /// of bytes is queued. `None`: there is no limit.
+    pub(crate) fn waiting_left(
+        &self,
+        key: ClientKey,
+        most_waiting: Option<u64>,
+        queued: usize,
+    ) -> Option<u64>
+        ensures { IfSome (session_at key self.now.list) (λ t. result ≡ left_of most_waiting (queued + length t.end.output)) }
+    {
+        match self.get(key) {
+            Some(session) => waiting_left(&session.end, most_waiting, queued),
+            None => Some(0),
+        }
+    }
+
+    /// Returns the number of pending output bytes of the end of a session; 0 if there is none of
+    /// this key.
+    pub(crate) fn pending(&self, key: ClientKey) -> usize
+        ensures { result ≡ length (output_of key self.now.list) }
+    {
+        match self.get(key) {
+            Some(session) => session.end.output().len(),
             None => 0,
         }
     }
@@ -244,6 +321,16 @@ impl Sessions {
         ensures room { self.new.room ≡ self.old.room }
     {
         detach_at(self.list.as_mut_slice(), key, output);
+    }
+
+    /// Stores this time as that of a client's last disconnect, if it has a session of this key.
+    pub(crate) fn mark_left(&mut self, key: ClientKey, now: u64)
+        ensures list { self.new.list ≡ marked_at key now self.old.list }
+        ensures room { self.new.room ≡ self.old.room }
+    {
+        if self.get(key).is_some() {
+            mark_left_at(self.list.as_mut_slice(), key, now);
+        }
     }
 
     /// Ends a session (3.1.2.4) and returns it, or `None` if there is none of this key.

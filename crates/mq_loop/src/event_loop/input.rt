@@ -1,24 +1,23 @@
 //! Reads of a round.
 
-ghost use Rattle.std.specs.Prelude.{◌≡◌};
+ghost use Rattle.std.specs.Prelude.{◌≡◌, true};
+ghost use Rattle.mq_loop.specs.Calls.{IsRound, Reads, ReadsOf, age_at};
+ghost use Rattle.mq_loop.specs.Inside.Turns.{IsOldestFirst};
 
 use crate::broker::Broker;
-use crate::event_loop::{EventLoop, Turn};
+use crate::event_loop::EventLoop;
 use crate::observer::Observer;
 use crate::reading::Reading;
 use crate::report::Report;
 use crate::served::Heard;
 use crate::socket::Socket;
+use crate::turns::{Holds, Turn, next_turn, sort_turns};
 use mq_decode::{Decoder, Limits};
 use mq_packet::Packet;
 use mq_route::{Act, HubReply};
 use mq_wire::Text;
 use std::alloc::Global;
 use std::mem;
-
-/// The time for which a new connection waits until older ones have nothing to read, in
-/// milliseconds.
-const PATIENCE: u64 = 100;
 
 /// The size of a read, in bytes, after which more may arrive at once, because the peer had no room
 /// to send it.
@@ -30,26 +29,46 @@ const ACT: usize = 16;
 impl<B: Broker + Drop, S: Socket + Drop, O: Observer + Drop> EventLoop<B, S, O> {
     // Reads from each connection that is ready, oldest first.
     pub(super) fn hear_all(&mut self, buffer: &mut [u8])
-        ensures { self.new.watched.served.base ≡ self.old.watched.served.base }
+        ensures base { self.new.watched.served.base ≡ self.old.watched.served.base }
+        ensures calls { IsRound self.old.ages self.old.watched.served.calls self.new.watched.served.calls }
+        ensures ages { self.new.ages ≡ self.old.ages }
     {
-        self.held_after = u64::MAX;
-        self.hung_up_after = u64::MAX;
-        mem::swap(&mut self.ready, &mut self.turns);
-        self.turns.sort_unstable();
-        for nth in 0..self.turns.len() {
-            if let Some(turn) = self.turns.as_slice().get(nth).copied() {
-                self.hear(turn, buffer);
-            }
+        self.holds = Holds::none();
+        let mut turns = mem::replace(&mut self.turns, Vec::new(self.alloc));
+        mem::swap(&mut self.ready, &mut turns);
+        sort_turns(&mut turns);
+        self.hear_turns(turns.as_slice(), buffer);
+        turns.clear();
+        self.turns = turns;
+        self.list_newcomers();
+    }
+
+    // Reads from the connections of these turns, in their order.
+    #[tactic(auto, using(crate::proofs::Calling::heard_none, crate::proofs::Calling::round_heard))]
+    fn hear_turns(&mut self, turns: &[Turn], buffer: &mut [u8])
+        requires { IsOldestFirst turns.now }
+        ensures base { self.new.watched.served.base ≡ self.old.watched.served.base }
+        ensures calls { IsRound self.old.ages self.old.watched.served.calls self.new.watched.served.calls }
+        ensures ages { self.new.ages ≡ self.old.ages }
+    {
+        let mut rest = turns;
+        while let Some((turn, more)) = next_turn(rest) {
+            let waits = self.must_wait(turn.place);
+            self.hear(turn, waits, buffer);
+            rest = more;
         }
-        self.turns.clear();
+    }
+
+    // Connections that were opened before this round may be read from in the next one.
+    fn list_newcomers(&mut self)
+        ensures { self.new ≡ self.old }
+    {
         for _ in 0..u64::MAX {
             let Some(place) = self.newcomers.pop() else {
                 return;
             };
-            if let Some(reading) = self.reading(place) {
-                let age = reading.age;
-                let _ = self.ready.push(Turn { age, place });
-            }
+            let age = self.age(place);
+            let _ = self.ready.push(Turn { age, place });
         }
     }
 
@@ -57,23 +76,15 @@ impl<B: Broker + Drop, S: Socket + Drop, O: Observer + Drop> EventLoop<B, S, O> 
         self.readings.as_slice().get(place as usize).copied()
     }
 
-    // Whether a connection without a client must wait, because an older one has more to read that
-    // may have been sent before. It waits for a limited time, unless the older one's peer has hung
-    // up, so that its rest is finite.
+    // Whether a connection must wait for an older one. One with a client never does.
     fn must_wait(&self, place: u32) -> bool {
         if self.watched.notes().has_client(place) {
             return false;
         }
-        let Some(reading) = self.reading(place) else {
-            return false;
-        };
-        let waits = self.time < reading.opened_at.saturating_add(PATIENCE);
-        let oldest = if waits {
-            self.held_after
-        } else {
-            self.hung_up_after
-        };
-        reading.age > oldest
+        match self.reading(place) {
+            Some(reading) => self.holds.must_wait(self.time, self.age(place), &reading),
+            None => false,
+        }
     }
 
     // A connection that used its share has more to read, and holds newer ones.
@@ -89,12 +100,8 @@ impl<B: Broker + Drop, S: Socket + Drop, O: Observer + Drop> EventLoop<B, S, O> 
     fn hold_newer(&mut self, place: u32)
         ensures { self.new ≡ self.old }
     {
-        let Some(reading) = self.reading(place) else {
-            return;
-        };
-        self.held_after = self.held_after.min(reading.empty_at);
-        if reading.has_hung_up {
-            self.hung_up_after = self.hung_up_after.min(reading.empty_at);
+        if let Some(reading) = self.reading(place) {
+            self.holds.hold(&reading);
         }
     }
 
@@ -117,10 +124,11 @@ impl<B: Broker + Drop, S: Socket + Drop, O: Observer + Drop> EventLoop<B, S, O> 
     // Notes that a connection has its turn. Returns false if the turn is that of an older
     // connection, which had the place before.
     fn take_turn(&mut self, turn: Turn) -> bool
-        ensures { self.new ≡ self.old }
+        ensures same { self.new ≡ self.old }
+        ensures age { result ≡ true → age_at turn.place self.old.ages ≡ turn.age }
     {
         let at = turn.place as usize;
-        if at >= self.readings.len() || self.readings[at].age != turn.age {
+        if at >= self.readings.len() || self.age(turn.place) != turn.age {
             return false;
         }
         let reading = &mut self.readings[at];
@@ -129,16 +137,20 @@ impl<B: Broker + Drop, S: Socket + Drop, O: Observer + Drop> EventLoop<B, S, O> 
         true
     }
 
-    // Reads from a connection until it has nothing more or has used its share. Reads nothing while
-    // its output is blocked.
-    fn hear(&mut self, turn: Turn, buffer: &mut [u8])
-        ensures { self.new.watched.served.base ≡ self.old.watched.served.base }
+    // Reads from a connection until it has nothing more or has used its share. Reads nothing if it
+    // waits for an older one, or while its output is blocked.
+    #[tactic(auto, using(crate::proofs::Calling::of_none, crate::proofs::Calling::of_place, crate::proofs::Calling::of_then))]
+    fn hear(&mut self, turn: Turn, waits: bool, buffer: &mut [u8])
+        ensures base { self.new.watched.served.base ≡ self.old.watched.served.base }
+        ensures calls { ReadsOf self.old.ages turn.age self.old.watched.served.calls self.new.watched.served.calls }
+        ensures ages { self.new.ages ≡ self.old.ages }
+        ensures waits { waits ≡ true → self.new ≡ self.old }
     {
         let place = turn.place;
         if !self.take_turn(turn) || !self.watched.notes().is_open(place) {
             return;
         }
-        if self.must_wait(place) {
+        if waits {
             self.list_ready(place);
             return;
         }
@@ -160,8 +172,11 @@ impl<B: Broker + Drop, S: Socket + Drop, O: Observer + Drop> EventLoop<B, S, O> 
 
     // Reads once. Returns how much of the share was used, or `None` if nothing more is to be read
     // now.
+    #[tactic(auto, using(crate::proofs::Calling::reads_none))]
     fn hear_once(&mut self, place: u32, buffer: &mut [u8]) -> Option<usize>
-        ensures { self.new.watched.served.base ≡ self.old.watched.served.base }
+        ensures base { self.new.watched.served.base ≡ self.old.watched.served.base }
+        ensures calls { Reads place self.old.watched.served.calls self.new.watched.served.calls }
+        ensures ages { self.new.ages ≡ self.old.ages }
     {
         if !self.watched.notes().may_read(place) {
             return None;

@@ -30,7 +30,7 @@ use Rattle.mq_route.specs.Routed.{same_conn}
 use Rattle.mq_route.specs.Copies.{kept, will_message}
 use Rattle.mq_route.specs.Hub.{HubConnection, is_connection, changed, with_connection, held_on, stage_of, up_on, end_of, with_end, copies_of, key_of}
 use Rattle.mq_route.specs.Welcome.{client_of, ends_with, refusal}
-use Rattle.mq_route.specs.Work.{Work, said, with_connections, with_sessions, staged, shut, put_on, put_where, does, publishes_next, is_missed, place, place_all, have_room, deliver, remove, last_will, will_after, remove_if, leaves_behind, close, subscribed, unsubscribed, retained_copies}
+use Rattle.mq_route.specs.Work.{Work, said, with_connections, with_sessions, staged, shut, put_on, put_where, does, publishes_next, is_missed, place, place_all, have_room, deliver, remove, last_will, will_after, remove_if, leaves_behind, shut_down, close, subscribed, unsubscribed, retained_copies}
 use Rattle.mq_route.specs.Arrives.{Growth, due, granted, answers, answers_all, replies, greeting, terms_of, resume_session, new_session, start_session, take_over, goes_on, accept_connect, on_connect, on_first_packet, dispatch_packet, touched, touched_on, arrives, takes}
 use Rattle.mq_route.specs.Bounds.Broker.{is_answer, answers_in}
 use Rattle.mq_route.proofs.Bounds.Lengths.{connack_size}
@@ -179,11 +179,12 @@ module _ (k : Conn) where
   shut_spends j w = lines_spend (λ x. record x { stage = Closed; held = [] }) j w (λ x. refl) (λ x. inr refl)
 
   pub close_spends : (j : Conn) (why : HubClose) (fits : Bool) (w : Work) → Spends 0 w (close j why fits w)
-  unfolding close
+  unfolding close shut_down
   close_spends j why fits w =
       let v = said (acts.Closed j why) (shut j w) in
       let a = shut_spends j w in
-      then_ 0 0 w v (leaves_behind why fits (stage_of j w.hub.connections) v) (record { out = a.out; held = a.held }) (leaves_spends why fits (stage_of j w.hub.connections) v)
+      let b = then_ 0 0 w v (leaves_behind why fits (stage_of j w.hub.connections) v) (record { out = a.out; held = a.held }) (leaves_spends why fits (stage_of j w.hub.connections) v) in
+      record { out = b.out; held = b.held }
 
   -- ---- answers to reports
 

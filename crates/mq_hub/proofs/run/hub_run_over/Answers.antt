@@ -20,11 +20,11 @@ returns-clause-run g c =
     c.traced-traced.ensures.trace)
 
 pub returns-clause-routed : goal.returns-clause-routed
-returns-clause-routed g c = λ closes.
+returns-clause-routed g c = λ closes unlimited.
     let config = c.args.config in
     let events = c.args.events.now in
     IfOk-weaker c.pair_with.result (λ r. IsRun config events r.0 r.1) (λ r. (k : ℕ) → placed k (acts_in r.1) ≡ routed k (acts_in r.1))
-    (λ r run. run_routes config events r.0 r.1 run c.routing_laws.ensures closes)
+    (λ r run. run_routes config events r.0 r.1 run c.routing_laws.ensures closes unlimited)
     (returns-clause-run g c)
 
 pub returns-clause-settled : goal.returns-clause-settled

@@ -1,9 +1,10 @@
-use Rattle.std.proofs.Common.{◌∙◌, refl, sym, ap, subst}
+use Rattle.std.proofs.Common.{◌∙◌, sym, ap, subst}
 use Rattle.mq_route.specs.Hub.{HubState, key_on, stage_of}
 use Rattle.mq_route.specs.Work.{close}
 use Rattle.mq_hub.specs.Inside.Refinement.{Refines}
 use Rattle.mq_hub.specs.Inside.View.{HubTables, hub_of}
 use Rattle.mq_hub.proofs.ConnectionChange.{stage_seen}
+use Rattle.mq_hub.proofs.DisconnectTimes.{closed_at}
 use Rattle.mq_hub.proofs.hub.HubOver.close.Goals as goal
 
 pub close_up-requires-clause-hubs : goal.close_up-requires-clause-hubs
@@ -25,8 +26,10 @@ invariant_of-self g c =
 pub returns-in-Some-clause-goes : goal.returns-in-Some-clause-goes
 returns-in-Some-clause-goes g c =
     let h = c.self.inside in
-    let goes = c.close_up.ensures.proceeds.goes h.config h.clock h.next_key c.self.invariant refl in (
+    let goes = c.close_up.ensures.proceeds.goes h.config h.clock h.next_key c.self.invariant (sym c.rules_of-rules.ensures) in (
       goes.0,
       subst (λ (s : HubState). Refines (close c.args.conn c.args.why goes.0) s c.args.log.now.acts (hub_of h.config h.clock h.next_key c.close_up.new.self)
-          c.close_up.new.log.acts) c.self.view_is goes.1,
+          c.close_up.new.log.acts) c.self.view_is
+          (closed_at (λ w. w) c.args.conn c.args.why goes.0 (hub_of h.config h.clock h.next_key h.tables) (hub_of h.config h.clock h.next_key c.close_up.new.self) c.args.log.now.acts
+          c.close_up.new.log.acts goes.1),
     )

@@ -15,5 +15,5 @@ returns g c =
       fresh = c.blank-end.ensures.end;
       capacity = c.blank-end.ensures.capacity;
       limit = c.blank-end.ensures.limit;
-      after = is ∙ (λ i. record { client = c.args.client; key = c.next_key-key.ensures i; end = end i });
+      after = is ∙ (λ i. record { client = c.args.client; key = c.next_key-key.ensures i; end = end i; left_at = (c.self.view_is i).clock });
     }) c.new.ensures

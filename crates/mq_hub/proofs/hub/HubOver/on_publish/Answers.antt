@@ -1,4 +1,4 @@
-use Rattle.std.proofs.Common.{◌≡◌, ◌≤◌, ◌<◌, ◌∙◌, ℕ, List, true, false, Ok, refl, sym, ap, subst}
+use Rattle.std.proofs.Common.{◌≡◌, ◌≤◌, ◌<◌, ◌∙◌, ◌+◌, ℕ, List, Some, length, true, false, Ok, refl, sym, ap, subst}
 use Rattle.mq_packet.specs.declared.message.Message.{Message}
 use Rattle.mq_packet.specs.declared.packet.Packet.TheVariants as packets
 use Rattle.mq_packet.specs.Publication.{Publication}
@@ -9,15 +9,17 @@ use Rattle.mq_route.specs.Arrives.{on_connected_packet}
 use Rattle.mq_route.specs.Hub.{HubState, copies_of, end_of}
 use Rattle.mq_route.specs.Work.{close, have_room, deliver}
 use Rattle.mq_hub.specs.declared.publish.reception.Reception.TheVariants.{Handed}
+use Rattle.mq_hub.specs.declared.publish.rules.QueuedAnswer.{QueuedAnswer}
 use Rattle.mq_hub.specs.Inside.Refinement.{Refines}
 use Rattle.mq_hub.specs.Inside.Reception.{IsReceived}
-use Rattle.mq_hub.specs.Inside.Placement.{Settles}
+use Rattle.mq_hub.specs.Inside.Placement.{HaveQueued, Settles}
 use Rattle.mq_hub.specs.Inside.Retained.{IsKeptOf, RetainedTable}
+use Rattle.mq_hub.specs.Inside.Rules.{answer_for, publish_answer}
 use Rattle.mq_hub.specs.Inside.View.{HubTables, hub_of}
 use Rattle.mq_hub.proofs.FirstPackets.{err_any}
 use Rattle.mq_hub.proofs.GrantedRows.{on_seen}
 use Rattle.mq_hub.proofs.NewPublish.{can_hand, copies_handed, handed_as, handed_goes, kept_handed, kept_unhanded, publish_of, same_publish, same_unhanded, stays_ready, taken_as, unhanded_goes}
-use Rattle.mq_hub.proofs.MissedCopies.{room_same_books, settles_alike}
+use Rattle.mq_hub.proofs.MissedCopies.{room_same_books, room_same_output, settles_alike}
 use Rattle.mq_hub.proofs.DeliveryInvariant.{enough_seen, goes_as, has_sessions, hub_alike, kept_alike}
 use Rattle.mq_hub.proofs.hub.HubOver.on_publish.Goals as goal
 
@@ -86,7 +88,7 @@ returns-then-not-branch-clause-closed g c = λ full conn fits new says goes.
     let handed = subst (λ (s : HubState). IsReceived Handed m (end_of key s.sessions)) (sym c.self.view_is) c.requires.handed in
     let room : false ≡ have_room (copies_of m.message old) old =
     enough_seen false m.message c.in_ok-plan.plan.copies.items old old
-    (sym c.if-not-branch.true ∙ c.in_ok-reserve_delivery.ensures.enough old (has_sessions h.config h.clock h.next_key t c.self.invariant) refl)
+    (sym c.if-not-branch.true ∙ c.in_ok-reserve_delivery.ensures.enough old (has_sessions h.config h.clock h.next_key t c.self.invariant) (sym c.rules_of-rules.ensures))
     (subst (λ (n : Message). c.in_ok-plan.plan.copies.items ≡ copies_of n old) c.into_message-message.ensures (c.in_ok-plan.ensures.copies h.config h.clock h.next_key)) refl in
     subst (λ (s : HubState). Refines (on_connected_packet conn key (packets.Publish m) fits) s c.args.log.now.acts new says) c.self.view_is
     (unhanded_goes h.config h.clock h.next_key key t c.reserve_delivery.new.self c.self.invariant c.reserve_delivery.ensures.alike on.conn on.is m handed
@@ -140,14 +142,19 @@ returns-clause-takes g c = λ done conn fits.
     let r = c.reserve_delivery.new.plan in
     let due : s.copies.items ≡ copies_of m.message here =
     planned ∙ sym (copies_handed h.config h.clock h.next_key key t p c.self.invariant c.reserve_delivery.ensures.alike on.conn on.is m handed u a) in
-    let settles : Settles h.config u.sessions.list (copies_of m.message here) r.copies.items r.acts.items =
-    subst (λ (cs : List (ℕ × Message)). Settles h.config u.sessions.list cs r.copies.items r.acts.items) due
-    (settles_alike h.config t.sessions.list u.sessions.list s.copies.items r.copies.items r.acts.items c.in_ok-plan.ensures.planned.apart
+    let queued : HaveQueued (Some c.publish_answer.result) t.sessions.list u.sessions.list =
+    subst (λ (a : QueuedAnswer). HaveQueued (Some a) t.sessions.list u.sessions.list) (sym c.publish_answer.ensures)
+    (λ k. c.in_ok-take_publish.ensures.outputs k
+    ∙ ap (λ (b : List ℕ). answer_for (Some (publish_answer key c.delivery-delivery.result)) k + length b) (room_same_output k t.sessions.list p.sessions.list c.reserve_delivery.ensures.alike.list)) in
+    let settles : Settles h.config (λ k. 0) u.sessions.list (copies_of m.message here) r.copies.items r.acts.items =
+    subst (λ (cs : List (ℕ × Message)). Settles h.config (λ k. 0) u.sessions.list cs r.copies.items r.acts.items) due
+    (settles_alike h.config (Some c.publish_answer.result) t.sessions.list u.sessions.list s.copies.items r.copies.items r.acts.items c.in_ok-plan.ensures.planned.apart
     (λ k. c.in_ok-take_publish.ensures.books k ∙ room_same_books t.sessions.list p.sessions.list c.reserve_delivery.ensures.alike.list k)
-    (c.in_ok-reserve_delivery.ensures.settles (ap Ok c.if-not-branch.false) old (has_sessions h.config h.clock h.next_key t c.self.invariant) refl)) in
+    queued
+    (c.in_ok-reserve_delivery.ensures.settles (ap Ok c.if-not-branch.false) old (has_sessions h.config h.clock h.next_key t c.self.invariant) (sym c.rules_of-rules.ensures))) in
     let room : true ≡ have_room (copies_of m.message old) old =
     enough_seen true m.message s.copies.items old old
-    (sym c.if-not-branch.false ∙ c.in_ok-reserve_delivery.ensures.enough old (has_sessions h.config h.clock h.next_key t c.self.invariant) refl) planned refl in
+    (sym c.if-not-branch.false ∙ c.in_ok-reserve_delivery.ensures.enough old (has_sessions h.config h.clock h.next_key t c.self.invariant) (sym c.rules_of-rules.ensures)) planned refl in
     let shared : Refines (deliver (acts.Took key m.message) m.message) here c.args.log.now.acts after c.deliver.new.log.acts =
     subst (λ (n : Message). Refines (deliver (acts.Took key n) m.message) here c.args.log.now.acts after c.deliver.new.log.acts) (ap (λ (x : Publication). x.message) (same_publish c.args.publish c.into_message-message.result c.delivery-delivery.result c.into_message-message.ensures c.delivery-delivery.ensures.value))
     (goes_as (acts.Took key c.into_message-message.result) m.message m.message here here after c.reserve_delivery.new.log.acts c.args.log.now.acts

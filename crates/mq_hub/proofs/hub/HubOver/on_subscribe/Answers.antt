@@ -9,6 +9,7 @@ use Rattle.mq_route.specs.Hub.{HubState}
 use Rattle.mq_route.specs.Work.{close, have_room, retained_copies}
 use Rattle.mq_hub.specs.Inside.Refinement.{Refines}
 use Rattle.mq_hub.specs.Inside.Placement.{HasSessions}
+use Rattle.mq_hub.specs.Inside.Rules.{rules_of}
 use Rattle.mq_hub.specs.Inside.View.{HubTables, hub_of}
 use Rattle.mq_hub.specs.Inside.Subscriptions.{subscribed_acts}
 use Rattle.mq_hub.proofs.RequestPackets.{asked_goes, unasked_goes}
@@ -36,7 +37,7 @@ invariant_of-self g c =
     let u : HubTables = c.subscribe.new.self in
     let on = on_seen h.config h.clock h.next_key h.tables c.args.self.now c.args.key c.self.view_is c.requires.up in
     three c.subscribe.result c.subscribe.ensures.done c.subscribe.ensures.full c.subscribe.ensures.err
-    (λ d. kept_subscribed h.config h.next_key c.args.key h.tables u c.self.invariant on.conn on.is c.args.id c.args.requests h.config.when_full d.0 d.1)
+    (λ d. kept_subscribed h.config h.next_key c.args.key h.tables u c.self.invariant on.conn on.is c.args.id c.args.requests c.rules_of-rules.result d.0 d.1)
     (λ a. kept_alike h.config h.next_key h.tables c.self.invariant u a)
 
 pub returns-clause-enough : goal.returns-clause-enough
@@ -44,7 +45,7 @@ returns-clause-enough g c =
     let h = c.self.inside in
     if_ok c.subscribe.result
     (λ enough says. subst (λ (s : HubState). have_room (retained_copies c.args.key c.args.requests s.retained) s ≡ enough) c.self.view_is
-    (says (hub_of h.config h.clock h.next_key h.tables) (has_sessions h.config h.clock h.next_key h.tables c.self.invariant) refl))
+    (says (hub_of h.config h.clock h.next_key h.tables) (has_sessions h.config h.clock h.next_key h.tables c.self.invariant) (sym c.rules_of-rules.ensures)))
     c.subscribe.ensures.enough
 
 pub returns-clause-goes : goal.returns-clause-goes
@@ -57,7 +58,7 @@ returns-clause-goes g c = λ done conn.
     (hub_of h.config h.clock h.next_key u) c.subscribe.new.log.acts) c.self.view_is
     (subst (λ (did : List Act). Refines (answers conn c.args.key (happens.Subscribe c.args.id c.args.requests)) (hub_of h.config h.clock h.next_key h.tables) c.args.log.now.acts
     (hub_of h.config h.clock h.next_key u) did) (sym d.2)
-    (subscribed_goes h.config h.next_key c.args.key h.tables u c.self.invariant on.conn on.is c.args.id c.args.requests h.config.when_full d.0 d.1 h.clock c.args.log.now.acts refl conn))
+    (subscribed_goes h.config h.next_key c.args.key h.tables u c.self.invariant on.conn on.is c.args.id c.args.requests c.rules_of-rules.result d.0 d.1 h.clock c.args.log.now.acts (sym c.rules_of-rules.ensures) conn))
 
 pub returns-clause-takes : goal.returns-clause-takes
 returns-clause-takes g c = λ done conn fits.
@@ -69,12 +70,12 @@ returns-clause-takes g c = λ done conn fits.
     let on = on_seen h.config h.clock h.next_key h.tables c.args.self.now key c.self.view_is c.requires.up in
     let d = c.subscribe.ensures.done done in
     let says = (c.args.log.now.acts ++ subscribed_acts key c.args.requests) ++ d.0 in
-    let enough = ok_at (λ enough. (b : HubState) → HasSessions h.tables.sessions.list b → b.config.when_full ≡ h.config.when_full → have_room (retained_copies key c.args.requests h.tables.retained.messages) b ≡ enough) c.subscribe.result done c.subscribe.ensures.enough old (has_sessions h.config h.clock h.next_key h.tables c.self.invariant) refl in
+    let enough = ok_at (λ enough. (b : HubState) → HasSessions h.tables.sessions.list b → rules_of b.config ≡ c.rules_of-rules.result → have_room (retained_copies key c.args.requests h.tables.retained.messages) b ≡ enough) c.subscribe.result done c.subscribe.ensures.enough old (has_sessions h.config h.clock h.next_key h.tables c.self.invariant) (sym c.rules_of-rules.ensures) in
     subst (λ (s : HubState). Refines (on_connected_packet conn key p fits) s c.args.log.now.acts (hub_of h.config h.clock h.next_key u) c.subscribe.new.log.acts) c.self.view_is
     (subst (λ (did : List Act). Refines (on_connected_packet conn key p fits) old c.args.log.now.acts (hub_of h.config h.clock h.next_key u) did) (sym d.2)
     (asked_goes h.config h.clock h.next_key key h.tables c.self.invariant on.conn on.is p (happens.Subscribe c.args.id c.args.requests) (λ e. refl) conn fits
     (hub_of h.config h.clock h.next_key u) c.args.log.now.acts says enough
-    (subscribed_goes h.config h.next_key key h.tables u c.self.invariant on.conn on.is c.args.id c.args.requests h.config.when_full d.0 d.1 h.clock c.args.log.now.acts refl conn)))
+    (subscribed_goes h.config h.next_key key h.tables u c.self.invariant on.conn on.is c.args.id c.args.requests c.rules_of-rules.result d.0 d.1 h.clock c.args.log.now.acts (sym c.rules_of-rules.ensures) conn)))
 
 pub returns-clause-closed : goal.returns-clause-closed
 returns-clause-closed g c = λ full conn fits new says goes.
@@ -83,8 +84,8 @@ returns-clause-closed g c = λ full conn fits new says goes.
     let p = packets.Subscribe c.args.id c.args.requests in
     let old = hub_of h.config h.clock h.next_key h.tables in
     let on = on_seen h.config h.clock h.next_key h.tables c.args.self.now key c.self.view_is c.requires.up in
-    let enough = ok_at (λ enough. (b : HubState) → HasSessions h.tables.sessions.list b → b.config.when_full ≡ h.config.when_full → have_room (retained_copies key c.args.requests h.tables.retained.messages) b ≡ enough)
-    c.subscribe.result full c.subscribe.ensures.enough old (has_sessions h.config h.clock h.next_key h.tables c.self.invariant) refl in
+    let enough = ok_at (λ enough. (b : HubState) → HasSessions h.tables.sessions.list b → rules_of b.config ≡ c.rules_of-rules.result → have_room (retained_copies key c.args.requests h.tables.retained.messages) b ≡ enough)
+    c.subscribe.result full c.subscribe.ensures.enough old (has_sessions h.config h.clock h.next_key h.tables c.self.invariant) (sym c.rules_of-rules.ensures) in
     subst (λ (s : HubState). Refines (on_connected_packet conn key p fits) s c.args.log.now.acts new says) c.self.view_is
     (unasked_goes h.config h.clock h.next_key key h.tables c.self.invariant on.conn on.is p (happens.Subscribe c.args.id c.args.requests) (λ e. refl) conn fits
     new c.args.log.now.acts says enough

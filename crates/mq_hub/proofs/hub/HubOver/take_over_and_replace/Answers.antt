@@ -1,18 +1,21 @@
-use Rattle.std.proofs.Common.{◌≡◌, ◌∙◌, ◌<◌, ◌^◌, ◌+◌, ◌++◌, ◌∷◌, [], false, Bool, ℕ, List, sym, ap, ap₂, subst, refl}
+use Rattle.std.proofs.Common.{◌≡◌, ◌∙◌, ◌<◌, ◌^◌, ◌+◌, ◌++◌, ◌∷◌, [], false, not, Bool, ℕ, List, sym, ap, ap₂, subst}
 use Rattle.mq_route.specs.declared.act.Act.{Act}
 use Rattle.mq_route.specs.declared.act.Act.TheVariants as acts
 use Rattle.mq_route.specs.declared.connection_state.ConnectionState.TheVariants.{AwaitingConnect, ConnectedAs}
 use Rattle.mq_route.specs.declared.connection_state.ConnectionTerms.{ConnectionTerms}
 use Rattle.mq_route.specs.Arrives.{start_session}
 use Rattle.mq_route.specs.Hub.{HubState, HubConnection, is_clean, key_of, key_on, stage_of, up_on, with_connection}
+use Rattle.mq_route.specs.declared.close.HubClose.TheVariants.{TakenOver}
+use Rattle.mq_route.specs.Work.{remove_if}
 use Rattle.mq_hub.specs.declared.sessions.session.BrokerSession.{BrokerSession}
 use Rattle.mq_hub.specs.Inside.Refinement.{Refines}
 use Rattle.mq_hub.specs.Inside.Invariant.{IsWillWithin}
 use Rattle.mq_hub.specs.Inside.ConnectRoom.{IsNewSession}
 use Rattle.mq_hub.specs.Inside.View.{HubTables, hub_of}
 use Rattle.mq_hub.specs.Inside.Sessions.{sessions_of, AreBelow}
+use Rattle.mq_hub.proofs.DisconnectTimes.{closed_at}
 use Rattle.mq_hub.proofs.NewSession.{none_up}
-use Rattle.mq_hub.proofs.TakeOver.{goes_anew, hub_roomed, keeps_anew, kept_roomed, over_by, stage_there}
+use Rattle.mq_hub.proofs.TakeOver.{goes_anew, hub_roomed, keeps_anew, kept_roomed, over_at, over_by, stage_there}
 use Rattle.mq_hub.proofs.hub.HubOver.take_over_and_replace.Goals as goal
 
 pub take_over_ending-requires-clause-hubs : goal.take_over_ending-requires-clause-hubs
@@ -85,7 +88,7 @@ invariant_of-self-2 g c =
     let connections = c.begin.ensures.connections
     ∙ ap₂ (λ (n : ℕ) (m : ConnectionTerms). with_connection (λ x. record x { stage = ConnectedAs n m h.clock }) k v.connections.connections) (ap (λ (s : BrokerSession). s.key) begun.after)
     c.in_ok-beginning.ensures.terms in
-    keeps_anew h.config.when_full (over_by c.args.other c.args.key (is_clean (stage_of c.args.other r.connections.connections))) k c.args.connect c.args.client h.config h.clock h.next_key r v u own
+    keeps_anew c.rules_of-rules.result (over_at h.clock c.args.other c.args.key (is_clean (stage_of c.args.other r.connections.connections))) k c.args.connect c.args.client h.config h.clock h.next_key r v u own
     c.reserve_more.new.self.acts c.take_over_ending.new.log.acts c.push.new.self.acts c.requires.named kept at c.take_over_ending.ensures.proceeds begun
     c.begin.ensures.rest c.begin.ensures.list connections
     (subst (λ (s : HubState). IsWillWithin s.config.limits.most c.args.connect.will) (sym c.self.view_is) c.requires.will) c.begin.ensures.limits
@@ -116,9 +119,9 @@ returns-clause-goes g c =
     let ends = is_clean (stage_of other r.connections.connections) in
     let said = c.push.ensures.acts ∙ ap (λ (n : ℕ). c.take_over_ending.new.log.acts ++ acts.Up k n false ∷ []) (sym next) in
     let goes =
-    goes_anew h.config.when_full (over_by other c.args.key ends) k c.args.connect c.args.client h.config h.clock h.next_key r v u own
+    goes_anew c.rules_of-rules.result (over_at h.clock other c.args.key ends) k c.args.connect c.args.client h.config h.clock h.next_key r v u own
     c.reserve_more.new.self.acts c.take_over_ending.new.log.acts c.push.new.self.acts c.requires.named kept at c.take_over_ending.ensures.proceeds begun
-    c.begin.ensures.rest c.begin.ensures.list connections refl said in
+    c.begin.ensures.rest c.begin.ensures.list connections (sym c.rules_of-rules.ensures) said in
     let clean : ends ≡ is_clean (stage_of other c.args.self.now.connections) =
     ap (λ (xs : List HubConnection). is_clean (stage_of other xs)) e.connections
     ∙ ap is_clean (stage_there other h.config h.clock h.next_key t c.args.self.now c.self.view_is) in (
@@ -128,5 +131,7 @@ returns-clause-goes g c =
           (subst (λ (d : List Act). Refines (λ w. start_session k c.args.connect c.args.client (over_by other c.args.key ends goes.0 w)) c.args.self.now d
           (hub_of h.config h.clock (h.next_key + 1) u) c.push.new.self.acts) c.reserve_more.ensures.same
           (subst (λ (s : HubState). Refines (λ w. start_session k c.args.connect c.args.client (over_by other c.args.key ends goes.0 w)) s c.reserve_more.new.self.acts
-          (hub_of h.config h.clock (h.next_key + 1) u) c.push.new.self.acts) same goes.1)),
+          (hub_of h.config h.clock (h.next_key + 1) u) c.push.new.self.acts) same
+          (closed_at (λ w. start_session k c.args.connect c.args.client (remove_if (not ends) c.args.key w)) other TakenOver goes.0 (hub_of h.config h.clock h.next_key r)
+          (hub_of h.config h.clock (h.next_key + 1) u) c.reserve_more.new.self.acts c.push.new.self.acts goes.1))),
     )

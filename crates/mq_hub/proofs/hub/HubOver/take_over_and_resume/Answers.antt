@@ -10,9 +10,10 @@ use Rattle.mq_route.specs.Hub.{HubState, HubConnection, is_clean, key_on, stage_
 use Rattle.mq_route.specs.Work.{close}
 use Rattle.mq_hub.specs.Inside.Refinement.{Refines}
 use Rattle.mq_hub.specs.Inside.Invariant.{IsWillWithin}
-use Rattle.mq_hub.specs.Inside.Close.{will_left}
+use Rattle.mq_hub.specs.Inside.Close.{close_at, will_left}
 use Rattle.mq_hub.specs.Inside.ConnectRoom.{will_messages, HasConnectRoomAt}
 use Rattle.mq_hub.specs.Inside.View.{HubTables, hub_of}
+use Rattle.mq_hub.proofs.DisconnectTimes.{closed_at}
 use Rattle.mq_hub.proofs.TakenOutput.{backed_at}
 use Rattle.mq_hub.proofs.FirstPackets.{err_any}
 use Rattle.mq_hub.proofs.TakeOverResume.{goes_over, hub_made, keeps_over, kept_made, output_still}
@@ -103,7 +104,7 @@ invariant_of-self-2 g c =
     ap (λ (xs : List HubConnection). stage_of k xs) e.connections ∙ stage_there k h.config h.clock h.next_key t c.args.self.now c.self.view_is ∙ c.requires.fresh in
     let connections = c.resume_when_ready.ensures.connections ∙ ap (λ (m : ConnectionTerms). with_connection (λ x. record x { stage = ConnectedAs key m h.clock }) k v.connections.connections)
     (c.in_ok-terms.ensures ∙ ap terms_of c.as_connect.ensures) in
-    keeps_over h.config.when_full (close c.args.other TakenOver) k c.args.connect key h.config h.clock h.next_key r v u c.reserve_more.new.self.acts c.take_over_keeping.new.log.acts
+    keeps_over c.rules_of-rules.result (close_at h.clock c.args.other TakenOver) k c.args.connect key h.config h.clock h.next_key r v u c.reserve_more.new.self.acts c.take_over_keeping.new.log.acts
     c.push.new.self.acts
     (λ i. not (c.requires.goes_on i) && c.requires.named i) kept at c.take_over_keeping.ensures.proceeds c.take_over_keeping.ensures.away c.resume_when_ready.ensures.list
     c.resume_when_ready.ensures.rest connections
@@ -127,16 +128,18 @@ returns-clause-goes g c =
     let same : hub_of h.config h.clock h.next_key r ≡ c.args.self.now = hub_made h.config h.next_key t r c.self.invariant e.rest e.alike e.connections h.clock
     ∙ c.self.view_is in
     let goes =
-    goes_over h.config.when_full (close c.args.other TakenOver) k c.args.connect key h.config h.clock h.next_key r v u c.reserve_more.new.self.acts c.take_over_keeping.new.log.acts
+    goes_over c.rules_of-rules.result (close_at h.clock c.args.other TakenOver) k c.args.connect key h.config h.clock h.next_key r v u c.reserve_more.new.self.acts c.take_over_keeping.new.log.acts
     c.push.new.self.acts
     (λ i. not (c.requires.goes_on i) && c.requires.named i) kept at c.take_over_keeping.ensures.proceeds c.take_over_keeping.ensures.away c.resume_when_ready.ensures.list
     c.resume_when_ready.ensures.rest connections
-    refl c.requires.goes_on c.push.ensures.acts in (
+    (sym c.rules_of-rules.ensures) c.requires.goes_on c.push.ensures.acts in (
       goes.0,
       subst (λ (d : List Act). Refines (λ w. resume_session k c.args.connect key (close c.args.other TakenOver goes.0 w)) c.args.self.now d
           (hub_of h.config h.clock h.next_key u) c.push.new.self.acts)
           c.reserve_more.ensures.same
           (subst (λ (s : HubState). Refines (λ w. resume_session k c.args.connect key (close c.args.other TakenOver goes.0 w)) s c.reserve_more.new.self.acts
           (hub_of h.config h.clock h.next_key u) c.push.new.self.acts)
-          same goes.1),
+          same
+          (closed_at (λ w. resume_session k c.args.connect key w) c.args.other TakenOver goes.0 (hub_of h.config h.clock h.next_key r) (hub_of h.config h.clock h.next_key u)
+          c.reserve_more.new.self.acts c.push.new.self.acts goes.1)),
     )

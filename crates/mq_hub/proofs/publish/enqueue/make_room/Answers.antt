@@ -22,7 +22,7 @@ pub returns-then-not-branch-clause-still : goal.returns-then-not-branch-clause-s
 returns-then-not-branch-clause-still c = λ key ms more was. c.make_room_for.ensures.still key ms more (c.loop-due.invariant.still key ms more was)
 
 pub returns-then-not-branch-clause-enough : goal.returns-then-not-branch-clause-enough
-returns-then-not-branch-clause-enough c = λ h has.
+returns-then-not-branch-clause-enough c = λ h has stored.
     let cs = c.args.copies.now in
     let i = c.loop-due.due-index in
     let d = c.due-item.result in
@@ -32,8 +32,8 @@ returns-then-not-branch-clause-enough c = λ h has.
     let now = has_same c.args.sessions.now.list c.loop-due.sessions.list h c.loop-due.invariant.same has in
     let front = drop_at cs i d l ∙ ap (λ (x : ℕ × Message). x ∷ rest) (sym c.due-item.is) in
     let says = subst (λ (ms : List Message). all_fit (for_key d.0 ms ++ rest) h ≡ (c.in_ok-make_room_for.field-0 && all_fit rest h)) c.from_ref.ensures.value
-    (c.in_ok-make_room_for.ensures.enough rest h now none) in
-    sym (c.loop-due.invariant.enough h has ∙ ap (λ (xs : List (ℕ × Message)). all_fit xs h) front ∙ says
+    (c.in_ok-make_room_for.ensures.enough rest h now stored none) in
+    sym (c.loop-due.invariant.enough h has stored ∙ ap (λ (xs : List (ℕ × Message)). all_fit xs h) front ∙ says
     ∙ ap (λ (b : Bool). b && all_fit rest h) c.if-not-branch.true)
 
 pub loop-due-preserved : goal.loop-due-preserved
@@ -54,11 +54,11 @@ loop-due-preserved c =
     (subst (λ (ms : List Message). IsReadyAt d.0 ms c.args.more new) c.from_ref.ensures.value own) in
     record {
       due = are_for_same old new cs c.make_room_for.ensures.same c.loop-due.invariant.due;
-      enough = λ h has.
+      enough = λ h has stored.
           let now = has_same c.args.sessions.now.list old h c.loop-due.invariant.same has in
           let says = subst (λ (ms : List Message). all_fit (for_key d.0 ms ++ rest) h ≡ (c.in_ok-make_room_for.field-0 && all_fit rest h)) c.from_ref.ensures.value
-          (c.in_ok-make_room_for.ensures.enough rest h now none) in
-          c.loop-due.invariant.enough h has ∙ ap (λ (xs : List (ℕ × Message)). all_fit xs h) front ∙ says
+          (c.in_ok-make_room_for.ensures.enough rest h now stored none) in
+          c.loop-due.invariant.enough h has stored ∙ ap (λ (xs : List (ℕ × Message)). all_fit xs h) front ∙ says
           ∙ ap (λ (b : Bool). b && all_fit rest h) enough
           ∙ ap (λ (n : ℕ). all_fit (drop n cs) h) (sym one);
       ready = subst (λ (n : ℕ). AreReady c.args.more new (take n cs)) (sym one)
@@ -69,7 +69,7 @@ loop-due-preserved c =
     }
 
 pub returns-clause-enough : goal.returns-clause-enough
-returns-clause-enough c = λ h has.
+returns-clause-enough c = λ h has stored.
     let cs = c.args.copies.now in
     let i = c.loop-due.due-index in
-    sym (c.loop-due.invariant.enough h has ∙ ap (λ (xs : List (ℕ × Message)). all_fit xs h) (ended cs i (omega (arith, c.loop-due-test.false))) ∙ fit_none h)
+    sym (c.loop-due.invariant.enough h has stored ∙ ap (λ (xs : List (ℕ × Message)). all_fit xs h) (ended cs i (omega (arith, c.loop-due-test.false))) ∙ fit_none h)

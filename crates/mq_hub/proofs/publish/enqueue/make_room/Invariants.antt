@@ -7,7 +7,7 @@ use Rattle.mq_hub.proofs.publish.enqueue.make_room.Given as goal
 abbrev pub invariant-loop-due : goal.invariant-loop-due
 invariant-loop-due l = record {
   due : AreFor l.sessions.list l.copies;
-  enough : (h : HubState) → HasSessions l.initial.sessions.list h → all_fit l.copies h ≡ all_fit (drop l.due-index l.copies) h;
+  enough : (h : HubState) → HasSessions l.initial.sessions.list h → h.config.most_stored ≡ l.most_stored → all_fit l.copies h ≡ all_fit (drop l.due-index l.copies) h;
   ready : AreReady l.more l.sessions.list (take l.due-index l.copies);
   same : AreSameButRoom l.initial.sessions.list l.sessions.list;
   still : AreStillReady l.initial.sessions.list l.sessions.list;

@@ -1,14 +1,48 @@
-use Rattle.std.proofs.Common.{◌∙◌, ◌-◌, ◌<◌, ◌≤◌, List, Err, length, ap, subst}
+use Rattle.std.proofs.Common.{◌≡◌, ◌∙◌, ◌∷◌, [], Bool, Option, IfSome, true, false, not, List, sym, ap, subst}
+use Rattle.std.specs.List.{AllByRecursion}
 use Rattle.mq_packet.specs.declared.message.Message.{Message}
-use Rattle.mq_flow.specs.Sender.{uses}
-use Rattle.mq_hub.proofs.SessionRoom.{count, ready_same, ready_still, ready_now, has_enough, has_few, has_short, has_too_few}
-use Rattle.mq_hub.proofs.MissedCopies.{one_fits, one_lacks}
+use Rattle.mq_hub.specs.declared.sessions.session.BrokerSession.{BrokerSession}
+use Rattle.mq_hub.specs.Inside.Placement.{MayGo}
+use Rattle.mq_hub.specs.Inside.Rules.{has_room}
+use Rattle.mq_hub.proofs.SessionRoom.{enough_own, few_own, fits_is, fits_own, ready_now, ready_same, ready_still}
+use Rattle.mq_hub.proofs.MissedCopies.{lacks_own}
 use Rattle.mq_hub.proofs.publish.enqueue.make_room_for.Goals as goal
 
+pub returns-then-not-has_room-clause-enough : goal.returns-then-not-has_room-clause-enough
+returns-then-not-has_room-clause-enough c = λ cs h has stored none.
+    let for = c.requires in
+    let ms = c.args.messages.now in
+    let list = c.args.sessions.now.list in
+    let room = subst (λ (o : Option BrokerSession). IfSome o (λ t. AllByRecursion (λ m. MayGo m t.end) ms → c.has_room.result ≡ has_room c.args.most_stored ms t.end)) for.there c.has_room.ensures.room in
+    let short = fits_is c.args.key c.args.most_stored ms h for.session list for.there has stored ∙ sym (room for.may_go) ∙ c.if-not-has_room.true in
+    few_own c.args.key ms cs h for.session list for.there has none short
+
+pub returns-then-not-has_room-clause-one : goal.returns-then-not-has_room-clause-one
+returns-then-not-has_room-clause-one c = λ m h has stored is.
+    let for = c.requires in
+    let ms = c.args.messages.now in
+    let list = c.args.sessions.now.list in
+    let room = subst (λ (o : Option BrokerSession). IfSome o (λ t. AllByRecursion (λ m. MayGo m t.end) ms → c.has_room.result ≡ has_room c.args.most_stored ms t.end)) for.there c.has_room.ensures.room in
+    let short = fits_is c.args.key c.args.most_stored ms h for.session list for.there has stored ∙ sym (room for.may_go) ∙ c.if-not-has_room.true in
+    lacks_own c.args.key m for.session list h has for.there ∙ ap not (subst (λ (xs : List Message). fits_own h.config xs for.session ≡ false) is short)
+
 pub returns-in-Ok-clause-enough : goal.returns-in-Ok-clause-enough
-returns-in-Ok-clause-enough c = λ cs h has none.
-    has_enough c.args.key c.args.messages.now c.args.more c.ready.result c.args.sessions.now.list c.ready.new.self.list c.ready.ensures.ascending c.ready.ensures.readies
-    c.requires c.in-Ok.is cs h has none
+returns-in-Ok-clause-enough c = λ cs h has stored none.
+    let for = c.requires in
+    let ms = c.args.messages.now in
+    let list = c.args.sessions.now.list in
+    let room = subst (λ (o : Option BrokerSession). IfSome o (λ t. AllByRecursion (λ m. MayGo m t.end) ms → c.has_room.result ≡ has_room c.args.most_stored ms t.end)) for.there c.has_room.ensures.room in
+    let fits = fits_is c.args.key c.args.most_stored ms h for.session list for.there has stored ∙ sym (room for.may_go) ∙ c.if-not-has_room.false in
+    enough_own c.args.key ms cs h for.session list c.has_room.ensures.ascending for.there has none fits
+
+pub returns-in-Ok-clause-one : goal.returns-in-Ok-clause-one
+returns-in-Ok-clause-one c = λ m h has stored is.
+    let for = c.requires in
+    let ms = c.args.messages.now in
+    let list = c.args.sessions.now.list in
+    let room = subst (λ (o : Option BrokerSession). IfSome o (λ t. AllByRecursion (λ m. MayGo m t.end) ms → c.has_room.result ≡ has_room c.args.most_stored ms t.end)) for.there c.has_room.ensures.room in
+    let fits = fits_is c.args.key c.args.most_stored ms h for.session list for.there has stored ∙ sym (room for.may_go) ∙ c.if-not-has_room.false in
+    lacks_own c.args.key m for.session list h has for.there ∙ ap not (subst (λ (xs : List Message). fits_own h.config xs for.session ≡ true) is fits)
 
 pub returns-in-Ok-clause-ready : goal.returns-in-Ok-clause-ready
 returns-in-Ok-clause-ready c = λ same.
@@ -22,19 +56,6 @@ pub returns-in-Ok-clause-still : goal.returns-in-Ok-clause-still
 returns-in-Ok-clause-still c =
     ready_still c.args.key c.args.messages.now c.args.more c.ready.result c.args.sessions.now.list c.ready.new.self.list c.ready.ensures.ascending c.ready.ensures.readies
 
-pub returns-in-Err-Full-clause-enough : goal.returns-in-Err-Full-clause-enough
-returns-in-Err-Full-clause-enough c = λ cs h has none.
-    has_too_few c.args.key c.args.messages.now c.args.more c.ready.result c.args.sessions.now.list c.ready.new.self.list c.ready.ensures.ascending c.ready.ensures.readies
-    c.requires (c.in-Err-Full.is ∙ ap Err c.in-Err-Full.field-0-is) cs h has none
-
-pub returns-in-Err-Full-clause-same : goal.returns-in-Err-Full-clause-same
-returns-in-Err-Full-clause-same c =
-    ready_same c.args.key c.args.messages.now c.args.more c.ready.result c.args.sessions.now.list c.ready.new.self.list c.ready.ensures.ascending c.ready.ensures.readies
-
-pub returns-in-Err-Full-clause-still : goal.returns-in-Err-Full-clause-still
-returns-in-Err-Full-clause-still c =
-    ready_still c.args.key c.args.messages.now c.args.more c.ready.result c.args.sessions.now.list c.ready.new.self.list c.ready.ensures.ascending c.ready.ensures.readies
-
 pub returns-in-Err-clause-same : goal.returns-in-Err-clause-same
 returns-in-Err-clause-same c =
     ready_same c.args.key c.args.messages.now c.args.more c.ready.result c.args.sessions.now.list c.ready.new.self.list c.ready.ensures.ascending c.ready.ensures.readies
@@ -42,18 +63,3 @@ returns-in-Err-clause-same c =
 pub returns-in-Err-clause-still : goal.returns-in-Err-clause-still
 returns-in-Err-clause-still c =
     ready_still c.args.key c.args.messages.now c.args.more c.ready.result c.args.sessions.now.list c.ready.new.self.list c.ready.ensures.ascending c.ready.ensures.readies
-
-pub returns-in-Ok-clause-one : goal.returns-in-Ok-clause-one
-returns-in-Ok-clause-one c = λ m h has is.
-    let r = c.ready.ensures.readies in
-    one_fits c.args.key m r.session c.args.sessions.now.list h has r.there
-    (subst (λ (ms : List Message). count ms ≤ r.session.end.capacity - length (uses r.session.end.end.book)) is
-    (has_few c.args.key c.args.messages.now c.args.more c.ready.result c.args.sessions.now.list c.ready.new.self.list c.ready.ensures.ascending r c.requires c.in-Ok.is))
-
-pub returns-in-Err-Full-clause-one : goal.returns-in-Err-Full-clause-one
-returns-in-Err-Full-clause-one c = λ m h has is.
-    let r = c.ready.ensures.readies in
-    one_lacks c.args.key m r.session c.args.sessions.now.list h has r.there
-    (subst (λ (ms : List Message). r.session.end.capacity - length (uses r.session.end.end.book) < count ms) is
-    (has_short c.args.key c.args.messages.now c.args.more c.ready.result c.args.sessions.now.list c.ready.new.self.list c.ready.ensures.ascending r c.requires
-    (c.in-Err-Full.is ∙ ap Err c.in-Err-Full.field-0-is)))

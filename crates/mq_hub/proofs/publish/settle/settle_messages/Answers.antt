@@ -16,10 +16,10 @@ loop-message-preserved c =
     let next = c.settle_message.new.settled in
     let one = c.in_ok-left.ensures in
     record {
-      kept = first_next at.left c.in_ok-left.left m rest (first_fitting c.args.free c.args.messages.items) now.kept.items next.kept.items
-          (ap (λ (xs : List Message). now.kept.items ++ first_fitting at.left xs) (sym steps) ∙ at.invariant.kept) one.kept one.left;
-      acts = first_acts_next c.args.key at.left c.in_ok-left.left m rest (fitting_acts c.args.key c.args.free c.args.messages.items) now.acts.items next.acts.items
-          (ap (λ (xs : List Message). now.acts.items ++ fitting_acts c.args.key at.left xs) (sym steps) ∙ at.invariant.acts) one.acts one.left;
+      kept = first_next c.args.rules at.left c.in_ok-left.left m rest (first_fitting c.args.rules c.args.space c.args.messages.items) now.kept.items next.kept.items
+          (ap (λ (xs : List Message). now.kept.items ++ first_fitting c.args.rules at.left xs) (sym steps) ∙ at.invariant.kept) one.kept one.rest;
+      acts = first_acts_next c.args.rules c.args.key at.left c.in_ok-left.left m rest (fitting_acts c.args.rules c.args.key c.args.space c.args.messages.items) now.acts.items next.acts.items
+          (ap (λ (xs : List Message). now.acts.items ++ fitting_acts c.args.rules c.args.key at.left xs) (sym steps) ∙ at.invariant.acts) one.acts one.rest;
       count =
           let l = ap (λ (xs : List Message). length xs) steps in
           let a = ap (λ (xs : List Act). length xs) one.acts ∙ length-append now.acts.items _ in

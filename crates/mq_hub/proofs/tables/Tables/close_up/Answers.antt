@@ -1,29 +1,41 @@
-use Rattle.std.proofs.Common.{◌∙◌, ap}
-use Rattle.mq_route.specs.Hub.{up_on}
+use Rattle.std.proofs.Common.{◌≡◌, ◌∙◌, ℕ, List, ap}
+use Rattle.mq_route.specs.Hub.{key_of, up_on}
+use Rattle.mq_hub.specs.declared.sessions.session.BrokerSession.{BrokerSession}
 use Rattle.mq_hub.specs.Inside.Connections.{ConnectionList}
+use Rattle.mq_hub.specs.Inside.Sessions.{sessions_of}
+use Rattle.mq_hub.specs.Inside.View.{HubTables}
+use Rattle.mq_hub.proofs.DisconnectTimes.{named_marked, proceeds_marked}
 use Rattle.mq_hub.proofs.TableParts.{hubs_after, proceeds_closed, will_after_close}
 use Rattle.mq_hub.proofs.tables.Tables.close_up.Goals as goal
 
 pub last_will-requires-clause-hubs : goal.last_will-requires-clause-hubs
 last_will-requires-clause-hubs g c =
-    hubs_after c.args.when_full _ c.args.self.now c.leave-will.new.self c.args.log.now.acts c.leave-will.new.log.acts c.requires.hubs (c.leave-will.ensures.proceeds c.args.when_full)
+    hubs_after c.args.rules _ c.args.self.now c.leave-will.new.self c.args.log.now.acts c.leave-will.new.log.acts c.requires.hubs (c.leave-will.ensures.proceeds c.args.rules)
 
 pub last_will-requires-clause-within : goal.last_will-requires-clause-within
 last_will-requires-clause-within g c =
-    will_after_close c.args.when_full _ c.args.conn c.args.why c.leave-will.result c.args.self.now c.leave-will.new.self c.args.log.now.acts c.leave-will.new.log.acts
-    c.requires.hubs (c.leave-will.ensures.proceeds c.args.when_full) c.leave-will.ensures.will
+    will_after_close c.args.rules _ c.args.conn c.args.why c.leave-will.result c.args.self.now c.leave-will.new.self c.args.log.now.acts c.leave-will.new.log.acts
+    c.requires.hubs (c.leave-will.ensures.proceeds c.args.rules) c.leave-will.ensures.will
 
 pub returns-clause-proceeds : goal.returns-clause-proceeds
 returns-clause-proceeds g c =
-    proceeds_closed c.args.when_full c.args.conn c.args.why c.args.key c.leave-will.result c.args.self.now c.leave-will.new.self c.last_will.new.self c.args.log.now.acts
-    c.leave-will.new.log.acts c.last_will.new.log.acts c.requires.up c.leave-will.ensures.will (c.leave-will.ensures.proceeds c.args.when_full) c.last_will.ensures.goes
-    c.last_will.ensures.spares
+    proceeds_marked c.args.key c.args.now c.last_will.new.self c.mark_left.new.self c.mark_left.ensures.list c.mark_left.ensures.rest c.args.rules c.args.conn c.args.why
+    c.args.self.now c.args.log.now.acts c.last_will.new.log.acts c.requires.up c.mark_left.ensures.room
+    (proceeds_closed c.args.rules c.args.conn c.args.why c.args.key c.leave-will.result c.args.self.now c.leave-will.new.self c.last_will.new.self c.args.log.now.acts
+    c.leave-will.new.log.acts c.last_will.new.log.acts c.requires.up c.leave-will.ensures.will (c.leave-will.ensures.proceeds c.args.rules) c.last_will.ensures.goes
+    c.last_will.ensures.spares)
 
 pub returns-clause-away : goal.returns-clause-away
-returns-clause-away g c = ap (λ (l : ConnectionList). up_on c.args.key l.connections) c.last_will.ensures.spares.connections ∙ c.leave-will.ensures.away
+returns-clause-away g c =
+    ap (λ (v : HubTables). up_on c.args.key v.connections.connections) c.mark_left.ensures.rest
+    ∙ ap (λ (l : ConnectionList). up_on c.args.key l.connections) c.last_will.ensures.spares.connections ∙ c.leave-will.ensures.away
 
 pub returns-clause-clients : goal.returns-clause-clients
-returns-clause-clients g c = λ lasts n. c.last_will.ensures.spares.clients n ∙ c.leave-will.ensures.clients lasts n
+returns-clause-clients g c = λ lasts n.
+    (ap (λ (ts : List BrokerSession). key_of n (sessions_of ts)) c.mark_left.ensures.list ∙ named_marked c.args.key c.args.now n c.last_will.new.self.sessions.list)
+    ∙ c.last_will.ensures.spares.clients n ∙ c.leave-will.ensures.clients lasts n
 
 pub returns-clause-gone : goal.returns-clause-gone
-returns-clause-gone g c = λ ends n stands. c.last_will.ensures.spares.clients n ∙ c.leave-will.ensures.gone ends n stands
+returns-clause-gone g c = λ ends n stands.
+    (ap (λ (ts : List BrokerSession). key_of n (sessions_of ts)) c.mark_left.ensures.list ∙ named_marked c.args.key c.args.now n c.last_will.new.self.sessions.list)
+    ∙ c.last_will.ensures.spares.clients n ∙ c.leave-will.ensures.gone ends n stands

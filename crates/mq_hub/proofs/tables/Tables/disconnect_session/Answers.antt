@@ -11,10 +11,10 @@ detach-stage-requires-clause-there g c =
     backed_at hubs.config.limits.most c.args.conn c.args.key t.sessions.list t.connections.connections hubs.keeps.backed c.requires.up
 
 pub returns-clause-proceeds : goal.returns-clause-proceeds
-returns-clause-proceeds g c = λ policy.
+returns-clause-proceeds g c = λ same_rules.
     let p = c.detach-stage.ensures in
     proceeds_parted c.args.conn c.args.why c.args.key c.args.self.now c.detach-stage.new.self c.requires.hubs c.requires.up p.list p.connections p.limits p.room p.up_room p.rest
-    policy c.args.log.now.acts c.push.new.self.acts c.requires.clean c.push.ensures.acts
+    same_rules c.args.log.now.acts c.push.new.self.acts c.requires.clean c.push.ensures.acts
 
 pub returns-clause-will : goal.returns-clause-will
 returns-clause-will g c = c.will_left.ensures ∙ ap (will_left c.args.why) c.detach-stage.ensures.stage

@@ -15,11 +15,11 @@ detach-stage-requires-clause-there g c =
     backed_at hubs.config.limits.most c.args.conn c.args.key t.sessions.list t.connections.connections hubs.keeps.backed c.requires.up
 
 pub returns-clause-proceeds : goal.returns-clause-proceeds
-returns-clause-proceeds g c = λ policy.
+returns-clause-proceeds g c = λ same_rules.
     let p = c.detach-stage.ensures in
     let r = c.remove.ensures in
     proceeds_left c.args.conn c.args.why c.args.key c.args.self.now c.detach-stage.new.self c.requires.hubs c.requires.up p.list p.connections p.limits p.room p.up_room p.rest
-    policy c.remove.new.self c.args.log.now.acts c.push-2.new.self.acts r.rows r.list r.room r.rest
+    same_rules c.remove.new.self c.args.log.now.acts c.push-2.new.self.acts r.rows r.list r.room r.rest
     (c.push-2.ensures.acts ∙ ap (λ (a : List Act). a ++ Removed c.args.key ∷ []) c.push.ensures.acts)
 
 pub returns-clause-will : goal.returns-clause-will

@@ -16,7 +16,7 @@ returns-in-Some-clause-goes g c = λ config clock next_key kept same.
     )
 
 pub returns-in-None-clause-goes : goal.returns-in-None-clause-goes
-returns-in-None-clause-goes g c = λ config clock next_key kept policy.
+returns-in-None-clause-goes g c = λ config clock next_key kept same_rules.
     goes_without c.args.key c.args.will (hub_of config clock next_key c.args.self.now) c.args.log.now.acts c.in-None.is
 
 pub returns-in-None-clause-spares : goal.returns-in-None-clause-spares

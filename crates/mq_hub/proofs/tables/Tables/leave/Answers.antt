@@ -4,11 +4,11 @@ use Rattle.mq_hub.specs.Inside.TableSteps.{Proceeds}
 use Rattle.mq_hub.proofs.tables.Tables.leave.Goals as goal
 
 pub returns-then-is_clean-clause-proceeds : goal.returns-then-is_clean-clause-proceeds
-returns-then-is_clean-clause-proceeds g c = λ policy.
-    subst (λ (b : Bool). Proceeds policy (λ fits. parts c.args.conn c.args.why c.args.key b) c.args.self.now c.args.log.now.acts c.end_session.new.self
-    c.end_session.new.log.acts) (sym c.if-is_clean.true ∙ c.is_clean.ensures) (c.end_session.ensures.proceeds policy)
+returns-then-is_clean-clause-proceeds g c = λ same_rules.
+    subst (λ (b : Bool). Proceeds same_rules (λ fits. parts c.args.conn c.args.why c.args.key b) c.args.self.now c.args.log.now.acts c.end_session.new.self
+    c.end_session.new.log.acts) (sym c.if-is_clean.true ∙ c.is_clean.ensures) (c.end_session.ensures.proceeds same_rules)
 
 pub returns-else-is_clean-clause-proceeds : goal.returns-else-is_clean-clause-proceeds
-returns-else-is_clean-clause-proceeds g c = λ policy.
-    subst (λ (b : Bool). Proceeds policy (λ fits. parts c.args.conn c.args.why c.args.key b) c.args.self.now c.args.log.now.acts c.disconnect_session.new.self
-    c.disconnect_session.new.log.acts) (sym c.if-is_clean.false ∙ c.is_clean.ensures) (c.disconnect_session.ensures.proceeds policy)
+returns-else-is_clean-clause-proceeds g c = λ same_rules.
+    subst (λ (b : Bool). Proceeds same_rules (λ fits. parts c.args.conn c.args.why c.args.key b) c.args.self.now c.args.log.now.acts c.disconnect_session.new.self
+    c.disconnect_session.new.log.acts) (sym c.if-is_clean.false ∙ c.is_clean.ensures) (c.disconnect_session.ensures.proceeds same_rules)

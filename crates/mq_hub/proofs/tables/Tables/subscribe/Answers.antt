@@ -3,6 +3,7 @@ use Rattle.std.specs.declared.alloc.AllocError.{AllocError}
 use Rattle.mq_packet.specs.declared.message.Message.{Message}
 use Rattle.mq_packet.specs.declared.packet.Request.{Request}
 use Rattle.mq_packet.specs.declared.packet.SubAckCode.{SubAckCode}
+use Rattle.mq_packet.specs.Encoding.{encoded_size}
 use Rattle.mq_end.specs.declared.packet_outcome.PacketOutcome.{PacketOutcome}
 use Rattle.mq_route.specs.Arrives.{granted}
 use Rattle.mq_route.specs.Hub.{for_key}
@@ -56,13 +57,13 @@ place_for-requires g c =
     left_ready key call c.serve.result kept (7 + length c.as_slice-count.result.now) ready c.serve.new.self.list c.serve.ensures.serves ok.0 ok.1 (λ e. refl) fits was
 
 pub returns-clause-enough : goal.returns-clause-enough
-returns-clause-enough g c = λ h has policy.
+returns-clause-enough g c = λ h has same.
     let key = c.args.key in
     let sliced : c.as_slice.result.now ≡ c.args.requests = c.as_slice.ensures.value in
     let due = c.in_ok-messages.ensures key
     ∙ ap (λ (rs : List Request). retained_copies key rs c.self.inside.retained.messages) sliced
     ∙ ap (λ (v : HubTables). retained_copies key c.args.requests v.retained.messages) c.self.view_is in
-    sym (c.in_ok-settled.ensures.enough h (subst (λ (v : HubTables). HasSessions v.sessions.list h) (sym c.self.view_is) has) policy
+    sym (c.in_ok-settled.ensures.enough h (subst (λ (v : HubTables). HasSessions v.sessions.list h) (sym c.self.view_is) has) same
     ∙ ap (λ (cs : List (ℕ × Message)). have_room cs h) due)
     ∙ ap (λ (o : Option SettledMessages). is_some o) c.in-Some.is
 
@@ -89,8 +90,10 @@ returns-clause-done g c = λ done.
     let due = c.in_ok-messages.ensures key
     ∙ ap (λ (rs : List Request). retained_copies key rs c.self.inside.retained.messages) sliced
     ∙ ap (λ (v : HubTables). retained_copies key c.args.requests v.retained.messages) c.self.view_is in
-    let settled = subst (λ (v : HubTables). IsSettledAs c.args.when_full key v.sessions.list c.in_ok-messages.messages.items c.in-Some.settled) c.self.view_is
-    (subst (λ (o : Option SettledMessages). IfSome o (λ s. IsSettledAs c.args.when_full key c.self.inside.sessions.list c.in_ok-messages.messages.items s)) c.in-Some.is
+    let long = granted_length c.args.requests ∙ sym (ap (λ (rs : List Request). length rs) counted) in
+    let queued = c.packet_len-queued.ensures ∙ ap (λ (n : ℕ). encoded_size (2 + n)) (sym long) in
+    let settled = subst (λ (v : HubTables). IsSettledAs c.args.rules c.packet_len-queued.result key v.sessions.list c.in_ok-messages.messages.items c.in-Some.settled) c.self.view_is
+    (subst (λ (o : Option SettledMessages). IfSome o (λ s. IsSettledAs c.args.rules c.packet_len-queued.result key c.self.inside.sessions.list c.in_ok-messages.messages.items s)) c.in-Some.is
     c.in_ok-settled.ensures.settles) in (
       c.in-Some.settled.acts.items,
       record {
@@ -111,12 +114,12 @@ returns-clause-done g c = λ done.
           connections = ap (λ (v : HubTables). v.connections) c.self.view_is;
         };
         messages = kept;
-        settles = λ config next policy invariant.
-            subst (λ (cs : List (ℕ × Message)). Settles config c.serve.new.self.list cs (for_key key kept) c.in-Some.settled.acts.items) due
-            (settles_served c.args.when_full config key c.args.id (granted c.args.requests) ok.0 c.in_ok-messages.messages.items c.in-Some.settled
-            c.args.self.now.sessions.list ready c.serve.new.self.list c.requires.can.session policy same c.requires.can.there serves
+        settles = λ config next rule invariant.
+            subst (λ (cs : List (ℕ × Message)). Settles config (λ k. 0) c.serve.new.self.list cs (for_key key kept) c.in-Some.settled.acts.items) due
+            (settles_served c.args.rules config key c.args.id c.packet_len-queued.result (granted c.args.requests) ok.0 c.in_ok-messages.messages.items c.in-Some.settled
+            c.args.self.now.sessions.list ready c.serve.new.self.list c.requires.can.session rule same c.requires.can.there serves
             (λ u there. (holds_at (SessionMatchesConnection config c.self.inside.connections.connections) key u c.serve.new.self.list there invariant.fitting).capacity)
-            settled);
+            c.requires.can.up (c.size_laws.ensures.suback c.args.id (granted c.args.requests)) queued settled);
         ready = left_ready key call c.serve.result kept (7 + length c.as_slice-count.result.now) ready c.serve.new.self.list c.serve.ensures.serves ok.0 ok.1 (λ e. refl) fits was;
         list = c.place_for.ensures.list;
         rows = refl;

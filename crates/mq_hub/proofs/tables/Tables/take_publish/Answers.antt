@@ -5,7 +5,7 @@ use Rattle.mq_end.specs.declared.publish_outcome.PublishOutcome.{PublishOutcome}
 use Rattle.mq_end.specs.Receiving.{outcome_of, told_of}
 use Rattle.mq_hub.specs.Inside.Calls.{ServesAt, publish_call}
 use Rattle.mq_hub.specs.Inside.View.{HubTables}
-use Rattle.mq_hub.proofs.PublishOutcome.{all_ready, same_books}
+use Rattle.mq_hub.proofs.PublishOutcome.{all_ready, queued, same_books}
 use Rattle.mq_hub.proofs.tables.Tables.take_publish.Goals as goal
 
 pub returns-clause-ok : goal.returns-clause-ok
@@ -46,4 +46,16 @@ returns-clause-books g c =
     subst (λ (r : Result PublishOutcome AllocError). ServesAt key call (told_of m r) c.args.self.now.sessions.list c.take_publish.new.self.list) c.in_ok-take_publish.was
     (subst (λ (v : HubTables). ServesAt key call (told_of m c.take_publish.result) v.sessions.list c.take_publish.new.self.list) c.self.view_is c.take_publish.ensures.serves) in
     same_books key c.args.now p (outcome_of c.in_ok-take_publish.field-0 m) c.args.self.now.sessions.list c.take_publish.new.self.list serves
+    c.requires.can c.requires.stays
+
+pub returns-clause-outputs : goal.returns-clause-outputs
+returns-clause-outputs g c =
+    let key = c.args.key in
+    let m = c.args.message.now in
+    let p : Publication = record { message = m; delivery = c.args.delivery } in
+    let call = publish_call c.args.now m c.args.delivery in
+    let serves : ServesAt key call (Ok (outcome_of c.in_ok-take_publish.field-0 m)) c.args.self.now.sessions.list c.take_publish.new.self.list =
+    subst (λ (r : Result PublishOutcome AllocError). ServesAt key call (told_of m r) c.args.self.now.sessions.list c.take_publish.new.self.list) c.in_ok-take_publish.was
+    (subst (λ (v : HubTables). ServesAt key call (told_of m c.take_publish.result) v.sessions.list c.take_publish.new.self.list) c.self.view_is c.take_publish.ensures.serves) in
+    queued key c.args.now p (outcome_of c.in_ok-take_publish.field-0 m) c.args.self.now.sessions.list c.take_publish.new.self.list serves
     c.requires.can c.requires.stays

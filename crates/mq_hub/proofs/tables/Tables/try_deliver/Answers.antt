@@ -1,4 +1,4 @@
-use Rattle.std.proofs.Common.{◌≡◌, ◌≤◌, ◌∙◌, ℕ, List, [], ◌∷◌, true, false, Ok, ap, refl, sym, subst}
+use Rattle.std.proofs.Common.{◌≡◌, ◌≤◌, ◌∙◌, ℕ, List, [], ◌∷◌, None, true, false, Ok, ap, refl, sym, subst}
 use Rattle.mq_end.specs.Sizes.{publish_size}
 use Rattle.mq_route.specs.declared.act.Act.TheVariants.{Will}
 use Rattle.mq_route.specs.Hub.{HubState, copies_of}
@@ -7,8 +7,9 @@ use Rattle.std.specs.List.{AllByRecursion}
 use Rattle.mq_route.specs.declared.config.HubConfig.{HubConfig}
 use Rattle.mq_hub.specs.Inside.Placement.{HasSessions, Settles}
 use Rattle.mq_hub.specs.Inside.Retained.{IsKeptOf}
+use Rattle.mq_hub.specs.Inside.Rules.{answer_for}
 use Rattle.mq_hub.specs.Inside.View.{HubTables, hub_of}
-use Rattle.mq_hub.proofs.MissedCopies.{all_settled, room_same_books, settles_alike}
+use Rattle.mq_hub.proofs.MissedCopies.{all_settled, room_queues_none, room_same_books, settles_alike}
 use Rattle.mq_hub.proofs.FirstPackets.{err_any}
 use Rattle.mq_hub.proofs.TableParts.{alike_same, spares_alike, spares_none, spares_shared, within_limit}
 use Rattle.mq_hub.proofs.RoomToConnect.{copies_fit, leaves_ready, leaves_same, leaves_shared}
@@ -34,12 +35,12 @@ pub returns-in_err-reserve_delivery-clause-spares : goal.returns-in_err-reserve_
 returns-in_err-reserve_delivery-clause-spares g c = spares_alike c.args.self.now c.reserve_delivery.new.self c.reserve_delivery.ensures.alike c.reserve_delivery.ensures.sessions
 
 pub returns-then-not-branch-clause-enough : goal.returns-then-not-branch-clause-enough
-returns-then-not-branch-clause-enough g c = λ config clock next_key kept policy.
+returns-then-not-branch-clause-enough g c = λ config clock next_key kept same_rules.
     let t : HubTables = c.args.self.now in
     let s = c.in_ok-plan.plan in
     let h : HubState = hub_of config clock next_key t in
     enough_seen false c.args.message s.copies.items h h
-    (sym c.if-not-branch.true ∙ c.in_ok-reserve_delivery.ensures.enough h (has_sessions config clock next_key t kept) policy)
+    (sym c.if-not-branch.true ∙ c.in_ok-reserve_delivery.ensures.enough h (has_sessions config clock next_key t kept) same_rules)
     (c.in_ok-plan.ensures.copies config clock next_key) refl
 
 pub returns-then-not-branch-clause-full : goal.returns-then-not-branch-clause-full
@@ -49,7 +50,7 @@ pub returns-then-not-branch-clause-spares : goal.returns-then-not-branch-clause-
 returns-then-not-branch-clause-spares g c = spares_alike c.args.self.now c.reserve_delivery.new.self c.reserve_delivery.ensures.alike c.reserve_delivery.ensures.sessions
 
 pub returns-clause-goes : goal.returns-clause-goes
-returns-clause-goes g c = λ e config clock next_key kept policy.
+returns-clause-goes g c = λ e config clock next_key kept same_rules.
     let t : HubTables = c.args.self.now in
     let p : HubTables = c.reserve_delivery.new.self in
     let s = c.in_ok-plan.plan in
@@ -58,23 +59,24 @@ returns-clause-goes g c = λ e config clock next_key kept policy.
     let here : HubState = hub_of config clock next_key p in
     let r = c.reserve_delivery.new.plan in
     let due : s.copies.items ≡ copies_of m here = c.in_ok-plan.ensures.copies config clock next_key ∙ sym (ap (copies_of m) same) in
-    let settles : Settles config p.sessions.list (copies_of m here) r.copies.items r.acts.items =
-    subst (λ (cs : List (ℕ × Message)). Settles config p.sessions.list cs r.copies.items r.acts.items) due
-    (settles_alike config t.sessions.list p.sessions.list s.copies.items r.copies.items r.acts.items c.in_ok-plan.ensures.planned.apart
+    let settles : Settles config (λ k. 0) p.sessions.list (copies_of m here) r.copies.items r.acts.items =
+    subst (λ (cs : List (ℕ × Message)). Settles config (λ k. 0) p.sessions.list cs r.copies.items r.acts.items) due
+    (settles_alike config None t.sessions.list p.sessions.list s.copies.items r.copies.items r.acts.items c.in_ok-plan.ensures.planned.apart
     (room_same_books t.sessions.list p.sessions.list c.reserve_delivery.ensures.alike.list)
-    (c.in_ok-reserve_delivery.ensures.settles (ap Ok c.if-not-branch.false) (hub_of config clock next_key t) (has_sessions config clock next_key t kept) policy)) in
+    (room_queues_none t.sessions.list p.sessions.list c.reserve_delivery.ensures.alike.list)
+    (c.in_ok-reserve_delivery.ensures.settles (ap Ok c.if-not-branch.false) (hub_of config clock next_key t) (has_sessions config clock next_key t kept) same_rules)) in
     goes_as (Will c.args.key m) m m here (hub_of config clock next_key t) (hub_of config clock next_key c.deliver.new.self) c.reserve_delivery.new.log.acts
     c.args.log.now.acts c.deliver.new.log.acts refl same c.reserve_delivery.ensures.acts
     (c.deliver.ensures.goes m config clock next_key (subst (λ k. IsKeptOf m k) (sym c.reserve_delivery.ensures.kept) c.in_ok-plan.ensures.kept)
     (kept_alike config next_key t p c.reserve_delivery.ensures.alike kept) settles)
 
 pub returns-clause-enough : goal.returns-clause-enough
-returns-clause-enough g c = λ config clock next_key kept policy.
+returns-clause-enough g c = λ config clock next_key kept same_rules.
     let t : HubTables = c.args.self.now in
     let s = c.in_ok-plan.plan in
     let h : HubState = hub_of config clock next_key t in
     enough_seen true c.args.message s.copies.items h h
-    (sym c.if-not-branch.false ∙ c.in_ok-reserve_delivery.ensures.enough h (has_sessions config clock next_key t kept) policy)
+    (sym c.if-not-branch.false ∙ c.in_ok-reserve_delivery.ensures.enough h (has_sessions config clock next_key t kept) same_rules)
     (c.in_ok-plan.ensures.copies config clock next_key) refl
 
 pub returns-clause-spares : goal.returns-clause-spares
@@ -105,13 +107,13 @@ returns-clause-connect_end g c =
     let r = c.reserve_delivery.new.plan in
     let hubs = c.requires.hubs in
     let was = c.in_ok-reserve_delivery.ensures.ready (ap Ok c.if-not-branch.false) in
-    let config : HubConfig = record hubs.config { when_full = c.args.when_full } in
+    let config : HubConfig = record hubs.config { when_full = c.args.rules.when_full; most_stored = c.args.rules.most_stored; most_waiting = c.args.rules.most_waiting } in
     let h : HubState = hub_of config 0 hubs.next_key t in
     let has : HasSessions t.sessions.list h = record { sessions = refl; capacity = (has_sessions hubs.config 0 hubs.next_key t hubs.keeps).capacity } in
     let small = subst (λ (cs : List (ℕ × Message)). AllByRecursion (λ x. publish_size x.1 ≤ publish_size c.args.message) cs)
     (sym (c.in_ok-plan.ensures.copies config 0 hubs.next_key)) (copies_fit c.args.message h) in
     leaves_shared c.args.message t c.reserve_delivery.new.self hubs p.alike.list p.still c.size_laws.ensures r.copies.items c.deliver.new.self c.requires.within
     was.apart
-    (all_settled (λ x. publish_size x.1 ≤ publish_size c.args.message) config t.sessions.list s.copies.items r.copies.items r.acts.items c.in_ok-plan.ensures.planned.apart
+    (all_settled (λ x. publish_size x.1 ≤ publish_size c.args.message) config (answer_for None) t.sessions.list s.copies.items r.copies.items r.acts.items c.in_ok-plan.ensures.planned.apart
     (c.in_ok-reserve_delivery.ensures.settles (ap Ok c.if-not-branch.false) h has refl) small)
     c.deliver.ensures.list

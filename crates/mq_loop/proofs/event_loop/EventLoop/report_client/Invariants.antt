@@ -5,4 +5,6 @@ abbrev pub invariant-loop-act : goal.invariant-loop-act
 invariant-loop-act g l = record {
   watched : l.self-inside.watched ≡ l.initial.self-inside.watched;
   failure : l.self-inside.failure ≡ l.initial.self-inside.failure;
+  ages : l.self-inside.ages ≡ l.initial.self-inside.ages;
+  opened : l.self-inside.opened ≡ l.initial.self-inside.opened;
 }

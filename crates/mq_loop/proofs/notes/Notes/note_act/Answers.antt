@@ -6,6 +6,9 @@ use Rattle.mq_loop.proofs.notes.Notes.note_act.Goals as goal
 pub returns-in-Up-clause-noted : goal.returns-in-Up-clause-noted
 returns-in-Up-clause-noted c = rw c.in-Up.is (c.note_up.ensures.noted c.in-Up.field-2)
 
+pub returns-in-Placed-clause-noted : goal.returns-in-Placed-clause-noted
+returns-in-Placed-clause-noted c = rw c.in-Placed.is (c.note_copy.ensures.noted c.in-Placed.field-1)
+
 pub returns-in-Removed-clause-noted : goal.returns-in-Removed-clause-noted
 returns-in-Removed-clause-noted c =
     let s = c.args.self.now in

@@ -2,6 +2,7 @@ use Rattle.std.proofs.Common.{◌∙◌, ap, sym}
 use Rattle.std.proofs.lemmas.Bool.{or_parts}
 use Rattle.mq_loop.specs.Accounts.{ServedState}
 use Rattle.mq_loop.specs.Rounds.{connections_in}
+use Rattle.mq_loop.proofs.Calling.{quiet_then}
 use Rattle.mq_loop.proofs.Watching.{ended_more}
 use Rattle.mq_loop.proofs.watched.Watched.end_all.Goals as goal
 
@@ -13,6 +14,7 @@ loop-is_ended-preserved g c =
     let is = c.in-Some.is_ended in
     let lines = λ (s : ServedState). connections_in s.lines in
     record {
+      calls = quiet_then c.args.self.now.served.calls c.loop-is_ended.self.served.calls c.end_next.new.self.served.calls i.calls e.calls;
       base = e.base ∙ i.base;
       some = λ h. ended_more had is (connections_in c.args.self.now.served.lines) (connections_in c.loop-is_ended.self.served.lines) (connections_in c.end_next.new.self.served.lines)
           i.some (λ x. ap lines (i.none x)) e.some (λ x. ap lines (e.same x).1) (sym c.either-has_ended.ensures ∙ h);

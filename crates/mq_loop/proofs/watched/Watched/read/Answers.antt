@@ -10,19 +10,19 @@ invariant_of-self g c =
     let n = c.note.new.self in
     let noted = rw c.as_slice.ensures at c.note.ensures.noted in
     let step = rw c.in-Step.is at e.step in
-    rw c.put.ensures (read_watched c.client_laws.ensures c.output_laws.ensures s.served c.read-heard.new.self c.args.place step.0 c.in-Step.reply (get nat_eq s.notes.clients) (get nat_eq n.clients)
+    rw c.put.ensures (read_watched c.client_laws.ensures c.output_laws.ensures s.most_owed s.served c.read-heard.new.self c.args.place step.0 c.in-Step.reply (get nat_eq s.notes.clients) (get nat_eq n.clients)
     s.notes.marked s.notes.over n.marked n.over c.self.invariant c.laws.ensures e.same e.others e.exists step.1 noted)
 
 pub invariant_of-self-in-Nothing : goal.invariant_of-self-in-Nothing
 invariant_of-self-in-Nothing g c =
     let s = c.self.inside in
     let e = c.read-heard.ensures in
-    stays_watched s.served c.read-heard.new.self c.args.place (get nat_eq s.notes.clients) s.notes.marked s.notes.over c.self.invariant (rw c.in-Nothing.is at e.step) e.same
+    stays_watched s.most_owed s.served c.read-heard.new.self c.args.place (get nat_eq s.notes.clients) s.notes.marked s.notes.over c.self.invariant (rw c.in-Nothing.is at e.step) e.same
     (rw c.in-Nothing.is at e.nothing)
 
 pub invariant_of-self-in-Over : goal.invariant_of-self-in-Over
 invariant_of-self-in-Over g c =
     let s = c.self.inside in
     let e = c.read-heard.ensures in
-    rw c.put-in-Over.ensures (over_watched s.served c.read-heard.new.self c.args.place (get nat_eq s.notes.clients) s.notes.marked s.notes.over c.self.invariant (rw c.in-Over.is at e.step) e.same
+    rw c.put-in-Over.ensures (over_watched s.most_owed s.served c.read-heard.new.self c.args.place (get nat_eq s.notes.clients) s.notes.marked s.notes.over c.self.invariant (rw c.in-Over.is at e.step) e.same
     e.others e.exists)

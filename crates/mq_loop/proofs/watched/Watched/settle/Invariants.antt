@@ -1,4 +1,5 @@
 use Rattle.std.proofs.Common.{◌≡◌, true}
+use Rattle.mq_loop.specs.Calls.{Quietly}
 use Rattle.mq_loop.specs.Rounds.{IsEmpty, connections_in}
 use Rattle.mq_loop.proofs.watched.Watched.settle.Given as goal
 
@@ -6,6 +7,7 @@ abbrev pub invariant-loop-self : goal.invariant-loop-self
 invariant-loop-self g l = record {
   marked : IsEmpty l.self.marked;
   committed : l.self.served.committed ≡ true;
+  calls : Quietly l.fn.self.served.calls l.self.served.calls;
   base : l.self.served.base ≡ l.fn.self.served.base;
 }
 

@@ -1,21 +1,24 @@
 use Rattle.std.proofs.Common.{◌≡◌, ◌∙◌, ◌++◌, ℕ, List, sym, ap}
 use Rattle.mq_packet.specs.declared.message.Message.{Message}
 use Rattle.mq_route.specs.Work.{all_fit, drops_copies}
+use Rattle.mq_hub.specs.declared.publish.rules.CopyRules.{CopyRules}
 use Rattle.mq_hub.specs.Inside.Placement.{placed_acts}
-use Rattle.mq_hub.proofs.MissedCopies.{room_closes, room_drops, settles_all}
+use Rattle.mq_hub.specs.Inside.Rules.{answer_for}
+use Rattle.mq_hub.proofs.MissedCopies.{room_closes, rules_keep, settles_all}
 use Rattle.mq_hub.proofs.PlannedCopies.{if_ok}
 use Rattle.mq_hub.proofs.publish.delivery.DeliveryPlan.make_room.Goals as goal
 
-pub returns-in_ok-push_placed-in-ClosePublisher-clause-enough : goal.returns-in_ok-push_placed-in-ClosePublisher-clause-enough
-returns-in_ok-push_placed-in-ClosePublisher-clause-enough c =
+pub returns-then-not-may_miss-clause-enough : goal.returns-then-not-may_miss-clause-enough
+returns-then-not-may_miss-clause-enough c =
+    let keeps = rules_keep c.args.rules (sym c.may_miss.ensures ∙ c.if-not-may_miss.true) in
     if_ok c.make_room.result c.make_room.ensures.enough
-    (λ enough says h has is. says h has ∙ ap (λ (cs : List (ℕ × Message)). all_fit cs h) c.as_slice-in-ClosePublisher.ensures.value
-    ∙ sym (room_closes c.args.self.now.copies.items h (is ∙ c.in-ClosePublisher.is)))
+    (λ enough says h has same. says h has (ap (λ (r : CopyRules). r.most_stored) same)
+    ∙ ap (λ (cs : List (ℕ × Message)). all_fit cs h) c.as_slice-then-not-may_miss.ensures.value
+    ∙ sym (room_closes c.args.self.now.copies.items h (ap (λ (r : CopyRules). drops_copies r.when_full) same ∙ keeps.0)))
 
-pub returns-in_ok-push_placed-in-ClosePublisher-clause-settles : goal.returns-in_ok-push_placed-in-ClosePublisher-clause-settles
-returns-in_ok-push_placed-in-ClosePublisher-clause-settles c = λ done h has is.
-    settles_all h.config c.args.sessions.now.list c.args.self.now.copies.items c.push_placed.new.acts.items (ap drops_copies (is ∙ c.in-ClosePublisher.is))
-    (c.in_ok-push_placed-in-ClosePublisher.ensures ∙ λ i. c.requires.acts i ++ placed_acts (c.as_slice.ensures.value i))
-
-pub returns-in_ok-kept-in-DropCopy-clause-enough : goal.returns-in_ok-kept-in-DropCopy-clause-enough
-returns-in_ok-kept-in-DropCopy-clause-enough c = λ h has is. sym (room_drops c.args.self.now.copies.items h (is ∙ c.in-DropCopy.is))
+pub returns-then-not-may_miss-clause-settles : goal.returns-then-not-may_miss-clause-settles
+returns-then-not-may_miss-clause-settles c = λ done h has same.
+    let keeps = rules_keep c.args.rules (sym c.may_miss.ensures ∙ c.if-not-may_miss.true) in
+    settles_all h.config (answer_for c.args.answer) c.args.sessions.now.list c.args.self.now.copies.items c.push_placed.new.acts.items
+    (ap (λ (r : CopyRules). drops_copies r.when_full) same ∙ keeps.0) (ap (λ (r : CopyRules). r.most_waiting) same ∙ keeps.1)
+    (c.in_ok-push_placed.ensures ∙ λ i. c.requires.acts i ++ placed_acts (c.as_slice.ensures.value i))

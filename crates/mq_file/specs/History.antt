@@ -1,0 +1,53 @@
+-- A file as the record of its calls.
+use Rattle.std.specs.Prelude.{◌≡◌, ◌⊎◌, ℕ, ◌+◌, ◌≤◌, ◌==◌, List, [], ◌∷◌, ◌++◌, length, take, drop, slice_index, if◌then◌else◌}
+use Rattle.mq_log.specs.Disk.{Torn}
+
+-- A call on a file: a write of bytes at an offset that succeeded, or that failed; a sync that
+-- succeeded; and any other call that failed.
+pub data FileCall : Type 0 where
+  Wrote : (at : ℕ) → (bytes : List ℕ) → FileCall
+  Stumbled : (at : ℕ) → (bytes : List ℕ) → FileCall
+  Synced : FileCall
+  Failed : FileCall
+
+-- the call that two numbers and bytes describe
+abbrev pub call_of : List ℕ → List ℕ → FileCall
+call_of numbers bytes =
+    if slice_index numbers 0 == 0 then Wrote (slice_index numbers 1) bytes
+    else (if slice_index numbers 0 == 1 then Stumbled (slice_index numbers 1) bytes
+    else (if slice_index numbers 0 == 2 then Synced else Failed))
+
+-- the content after calls on a new file, the newest call first
+abbrev pub seen_after : List FileCall → List ℕ
+seen_after [] = []
+seen_after (Wrote at bytes ∷ before) =
+    take at (seen_after before) ++ bytes ++ drop (at + length bytes) (seen_after before)
+seen_after (Stumbled at bytes ∷ before) = seen_after before
+seen_after (Synced ∷ before) = seen_after before
+seen_after (Failed ∷ before) = seen_after before
+
+-- A crash after calls may leave this content: that of the calls, or one in which writes since the
+-- last sync changed their ranges in any way.
+abbrev pub MayLeave : List FileCall → List ℕ → Type 0
+MayLeave [] c = c ≡ []
+MayLeave (Wrote at bytes ∷ before) c =
+    (c ≡ seen_after (Wrote at bytes ∷ before))
+    ⊎ ((d : List ℕ) × MayLeave before d × Torn at (length bytes) d c)
+MayLeave (Stumbled at bytes ∷ before) c =
+    (d : List ℕ) × MayLeave before d × Torn at (length bytes) d c
+MayLeave (Synced ∷ before) c = c ≡ seen_after before
+MayLeave (Failed ∷ before) c = MayLeave before c
+
+-- A crash at some time since a number of calls could have left this content.
+abbrev pub LeftSince : List FileCall → ℕ → List ℕ → Type 0
+LeftSince [] t c = (t ≤ 0) × MayLeave [] c
+LeftSince (call ∷ before) t c =
+    ((t ≤ length (call ∷ before)) × MayLeave (call ∷ before) c) ⊎ LeftSince before t c
+
+-- the number of calls that failed
+abbrev pub failures : List FileCall → ℕ
+failures [] = 0
+failures (Wrote at bytes ∷ before) = failures before
+failures (Stumbled at bytes ∷ before) = failures before + 1
+failures (Synced ∷ before) = failures before
+failures (Failed ∷ before) = failures before + 1

@@ -1,0 +1,5 @@
+pub mod Files
+pub mod Folders
+pub mod History
+pub mod Named
+pub mod Times

@@ -1,0 +1,18 @@
+//! A file of the system as a `Disk` of `mq_log`, and the folder that has it.
+//!
+//! Contracts see a file by the record of its calls, from which the content and the outcomes of a
+//! crash follow. Whether a real file does what the calls report is not proved.
+//!
+//! A call that can fail for lack of memory says so in its return type; other calls never allocate.
+#![tactic(auto)]
+
+mod error;
+mod folder;
+mod journal_file;
+mod named_files;
+mod record;
+
+pub use crate::error::FolderError;
+pub use crate::folder::{Folder, has_file, read_file};
+pub use crate::journal_file::{JournalFile, Keep};
+pub use crate::named_files::{NamedFiles, replace};

@@ -1,0 +1,5 @@
+pub mod Layout
+pub mod Moment
+pub mod Json
+pub mod Reading
+pub mod Format

@@ -1,8 +1,0 @@
-use Rattle.std.proofs.Common.{◌≡◌}
-use Rattle.mq_loop.proofs.event_loop.EventLoop.hear_all.Given as goal
-
-abbrev pub invariant-loop-nth : goal.invariant-loop-nth
-invariant-loop-nth g l = l.self.watched.served.base ≡ l.fn.self.watched.served.base
-
-abbrev pub invariant-loop : goal.invariant-loop
-invariant-loop g l = l.self.watched.served.base ≡ l.fn.self.watched.served.base

@@ -1,0 +1,4 @@
+pub mod Retrying
+pub mod Printing
+pub mod Subscribing
+pub mod Giving

@@ -1,0 +1,7 @@
+use Rattle.std.proofs.Common.{◌≡◌, ◌++◌, take}
+use Rattle.mq_store.specs.Configuration.{hashed_users_bytes}
+use Rattle.mq_store.proofs.configuration.put_hashed_users.Given as goal
+
+abbrev pub invariant-loop-user : goal.invariant-loop-user
+invariant-loop-user l =
+    l.out.items ≡ l.fn.out.items ++ hashed_users_bytes (take l.user-index l.users)

@@ -1,0 +1,42 @@
+-- A broker that is restored from the files of its journal.
+use Rattle.std.specs.Prelude.{◌≡◌, ℕ, List, [], length}
+use Rattle.std.specs.List.{flat_map}
+use Rattle.mq_durable.specs.declared.condition.Condition.TheVariants.{Sound}
+use Rattle.mq_durable.specs.Recorded.{events_of}
+use Rattle.mq_durable.specs.Recovering.{AreEnds, latest}
+use Rattle.mq_durable.specs.Replaying.{Replays}
+use Rattle.mq_durable.specs.State.{DurableState}
+use Rattle.mq_file.specs.declared.journal_file.JournalFile.{JournalFile}
+use Rattle.mq_file.specs.Files.{calls_of}
+use Rattle.mq_file.specs.History.{seen_after}
+use Rattle.mq_route.specs.declared.event.HubEvent.{HubEvent}
+use Rattle.mq_route.specs.Hub.{HubState}
+
+-- the events of files, in order
+abbrev pub events_of_all : List (List ℕ) → List HubEvent
+events_of_all files = flat_map events_of files
+
+-- Exactly the events of some files came to a broker, and this is their number.
+pub record IsRestored (old new : HubState) (count : ℕ) : Type 0 where
+  pub files : List (List ℕ)
+  pub replays : Replays old (events_of_all files) new
+  pub clock : new.clock ≡ latest old.clock (events_of_all files)
+  pub count_is : count ≡ length (events_of_all files)
+
+-- The connections of a restored broker have ended, and the ends are pending. The new file has no
+-- event yet.
+pub record IsResumed {D : Type 0} (seen : D → List ℕ) (restored : HubState) (new : DurableState D) : Type 0 where
+  pub base : new.base ≡ restored
+  pub recorded : events_of (seen new.disk) ≡ []
+  pub are_ends : AreEnds new.pending
+  pub ended : Replays restored new.pending new.hub
+  pub none : new.hub.connections ≡ []
+  pub sound : new.condition ≡ Sound
+
+-- A broker that was restored from a new one, with the number of its events and its time. Its
+-- connections have ended.
+pub record IsOpened (begun : HubState) (new : DurableState JournalFile) (count clock : ℕ) : Type 0 where
+  pub restored : HubState
+  pub is_restored : IsRestored begun restored count
+  pub is_resumed : IsResumed (λ file. seen_after (calls_of file)) restored new
+  pub clock_is : clock ≡ restored.clock

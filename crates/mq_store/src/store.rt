@@ -1,0 +1,145 @@
+//! Opening a store.
+
+ghost use Rattle.std.specs.Prelude.{◌<◌, IfOk, IfSome};
+ghost use Rattle.mq_route.specs.Hub.{new_hub};
+ghost use Rattle.mq_store.specs.Restoring.{IsOpened, IsRestored};
+
+use crate::configuration::{check_digest, digest_of};
+use crate::fault::StoreError;
+use crate::restoring::{Replayed, resume};
+use mq_durable::{Durable, Recovery};
+use mq_file::{Folder, JournalFile, Keep, has_file, read_file};
+use mq_hub::Hub;
+use mq_route::HubConfig;
+use std::alloc::{AllocError, Global};
+use std::fs::File;
+use std::rt::Files;
+
+/// An open store.
+#[derive(Drop)]
+pub struct Store {
+    /// The broker. Its connections have ended, and the ends are pending.
+    pub durable: Durable<JournalFile>,
+    /// The folder, which is locked as long as this value exists.
+    pub folder: Folder,
+    /// The latest time of the broker, from which its clock must continue, in milliseconds.
+    pub clock: u64,
+    /// The number of events that were recovered.
+    pub events: u64,
+}
+
+// The name of a file of the journal.
+fn file_name(alloc: Global, path: &str, nth: u64) -> Result<String, AllocError> {
+    format!(in alloc; "{path}/journal.{nth}")
+}
+
+// Checks that the folder has this digest of a configuration.
+fn check_owner<R: Files<File = File>>(
+    rt: &R,
+    alloc: Global,
+    path: &str,
+    digest: &[u8],
+) -> Result<(), StoreError> {
+    let name = format!(in alloc; "{path}/configuration")?;
+    match read_file(rt, alloc, name.as_str())? {
+        Some(known) => check_digest(known.as_slice(), digest),
+        None => Err(StoreError::Configuration),
+    }
+}
+
+// Writes this digest of a configuration to the folder.
+fn set_owner<R: Files<File = File>>(
+    rt: &R,
+    alloc: Global,
+    folder: &Folder,
+    path: &str,
+    digest: &[u8],
+) -> Result<(), StoreError> {
+    let name = format!(in alloc; "{path}/configuration")?;
+    let next = format!(in alloc; "{path}/configuration.next")?;
+    folder.replace_file(rt, next.as_str(), name.as_str(), digest)?;
+    Ok(())
+}
+
+// Checks that the folder belongs to a configuration. A folder without a journal belongs to it from
+// now on.
+fn claim<R: Files<File = File>>(
+    rt: &R,
+    alloc: Global,
+    folder: &Folder,
+    path: &str,
+    config: &HubConfig,
+) -> Result<(), StoreError> {
+    let digest = digest_of(alloc, config)?;
+    let first = file_name(alloc, path, 1)?;
+    if has_file(rt, first.as_str())? {
+        check_owner(rt, alloc, path, &digest)
+    } else {
+        set_owner(rt, alloc, folder, path, &digest)
+    }
+}
+
+// Restores the broker from the files of the folder. Returns it with the number of the next file.
+fn replay_all<R: Files<File = File>>(
+    rt: &R,
+    alloc: Global,
+    path: &str,
+    config: HubConfig,
+) -> Result<(Replayed, u64), StoreError>
+    requires capacity { 0 < config.capacity }
+    requires window { IfSome config.window (λ window. 0 < window) }
+    ensures { IfOk result (λ r. IsRestored (new_hub config) r.0.recovery r.0.events) }
+{
+    let mut replayed = Replayed {
+        recovery: Recovery::new(alloc, Hub::new(alloc, config)),
+        events: 0,
+    };
+    for nth in 1..u64::MAX {
+        let name = file_name(alloc, path, nth)?;
+        let Some(file) = read_file(rt, alloc, name.as_str())? else {
+            return Ok((replayed, nth));
+        };
+        replayed = replayed.after(alloc, file.as_slice())?;
+    }
+    Err(StoreError::TooLong)
+}
+
+/// Opens the store in a folder, and restores its broker. The connections of the broker have ended.
+///
+/// The files `journal.1`, `journal.2` and so on have the events, in order. Each start begins a new
+/// file. The file `configuration` has the digest of the configuration, since the events lead to
+/// another broker under another one.
+pub fn open_store<R: Files<File = File>>(
+    rt: &R,
+    alloc: Global,
+    path: &str,
+    keep: Keep,
+    config: HubConfig,
+) -> Result<Store, StoreError>
+    requires capacity { 0 < config.capacity }
+    requires window { IfSome config.window (λ window. 0 < window) }
+    ensures { IfOk result (λ store.
+        IsOpened (new_hub config) store.durable store.events store.clock) }
+{
+    let folder = Folder::open(rt, alloc, path)?;
+    claim(rt, alloc, &folder, path, &config)?;
+    let (replayed, nth) = replay_all(rt, alloc, path, config)?;
+    let behind = file_name(alloc, path, nth.saturating_add(1))?;
+    if has_file(rt, behind.as_str())? {
+        return Err(StoreError::Gap);
+    }
+    let name = file_name(alloc, path, nth)?;
+    let Ok(disk) = JournalFile::create(rt, name.as_str(), keep) else {
+        return Err(StoreError::Unwritten);
+    };
+    let Replayed { recovery, events } = replayed;
+    let clock = recovery.clock();
+    let durable = resume(recovery, disk)?;
+    folder.sync()?;
+    Ok(Store {
+        durable,
+        folder,
+        clock,
+        events,
+    })
+}

@@ -1,0 +1,5 @@
+//! Tests of the lines that `mqtt sub` prints.
+#![tactic(auto)]
+
+#[cfg(test)]
+mod formats;
