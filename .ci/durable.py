@@ -47,9 +47,9 @@ def message_of(first, body):
 
 
 class Kept(Broker):
-    """A broker with a journal, whose files have `size` bytes at most."""
+    """A broker with a journal. Its files have `size` bytes at most, and its memory `memory`."""
 
-    def __init__(self, program, folder, *words, size=None):
+    def __init__(self, program, folder, *words, size=None, memory=None):
         self.log = tempfile.NamedTemporaryFile(mode="r")
         words = [program, "broker", "--listen", "127.0.0.1:0", "--quiet", "--data", folder, *words]
 
@@ -57,6 +57,8 @@ class Kept(Broker):
             if size:
                 signal.signal(signal.SIGXFSZ, signal.SIG_IGN)
                 resource.setrlimit(resource.RLIMIT_FSIZE, (size, size))
+            if memory:
+                resource.setrlimit(resource.RLIMIT_AS, (memory, memory))
 
         how = {"stdout": subprocess.PIPE, "stderr": subprocess.PIPE, "preexec_fn": limit}
         self.process = subprocess.Popen(words, **how)
@@ -426,7 +428,7 @@ def fill(program, folder, size):
             assert count in (taken, taken + 1), f"{count} messages, and {taken} were acknowledged"
 
 
-def publish_until_lost(broker):
+def publish_until_lost(broker, size=1_000):
     """The number of messages that the broker acknowledges before it ends."""
     with Client(broker, "home", clean=False) as home:
         home.subscribe("t/+", 1)
@@ -434,11 +436,24 @@ def publish_until_lost(broker):
     with Client(broker, "p") as client:
         for taken in range(1_000):
             try:
-                client.send(publish("t/x", 1_000 * b"x", 1, taken + 1))
+                client.send(publish("t/x", size * b"x", 1, taken + 1))
                 client.expect(0x40)
             except LOST:
                 return taken
     raise AssertionError("the disk is not full")
+
+
+def memory(program):
+    """If an allocation fails the broker ends, and every message that it acknowledged is there."""
+    words = ["--max-stored", "1000000000"]
+    with tempfile.TemporaryDirectory() as room:
+        with Kept(program, f"{room}/data", *words, memory=64 << 20) as broker:
+            taken = publish_until_lost(broker, 1_000_000)
+            status, reason = broker.process.wait(LIMIT), broker.process.stderr.read().decode()
+        assert status == 3 and reason.endswith(": out of memory\n"), (status, reason)
+        with Kept(program, f"{room}/data", *words) as broker:
+            count = len(messages_of_home(broker))
+        assert taken > 10 and count in (taken, taken + 1), (taken, count)
 
 
 def damage(program):
@@ -508,7 +523,7 @@ def messages_of_home(broker):
             found.append(message_of(first, body)[1])
 
 
-TESTS = [kills, queued, refusals, full, damage]
+TESTS = [kills, queued, refusals, full, memory, damage]
 
 
 def faults_of(program, names=()):

@@ -165,7 +165,7 @@ IsKeep command choice =
 -- The folder of the journal. Without a folder the failure that it survives must not be given.
 abbrev pub IsData : Option (Text × List Row) → Option DataFolder → Type 0
 IsData command None = HasWord command (codes "broker") (codes "DATA") None × HasWord command (codes "broker") (codes "KEEP") None
-IsData command (Some data) = GivesWord command (codes "broker") (codes "DATA") data.path.now × IsKeep command data.keep
+IsData command (Some folder) = GivesWord command (codes "broker") (codes "DATA") folder.path.now × IsKeep command folder.keep
 
 -- the words of `broker`
 pub record IsBroker (command : Option (Text × List Row)) (broker : Broker) : Type 0 where

@@ -366,7 +366,7 @@ pub(crate) fn broker_complaint(matches: &ArgMatches<'_>) -> &'static str {
         return "--keep wants system or disk";
     }
     match data_of(matches) {
-        None => "--keep is allowed only with --data",
+        None => "broker wants --data DIR with --keep",
         Some(_) => "--when-full wants drop or close",
     }
 }

@@ -25,8 +25,8 @@ keep_of failures.Disk = keeps.Disk
 abbrev pub IsReady : Option DataFolder → BrokerOptions → Ready → Type 0
 IsReady None options (Plain own) = own ≡ options
 IsReady None options (Kept broker) = ⊥
-IsReady (Some data) options (Plain own) = ⊥
-IsReady (Some data) options (Kept broker) =
+IsReady (Some folder) options (Plain own) = ⊥
+IsReady (Some folder) options (Kept broker) =
     IsRecovered (new_hub (configuration options)) broker × IsPacketLimit options.max_packet
 
 -- Why a broker may end. The maximum remaining length of a recovered one was allowed.
