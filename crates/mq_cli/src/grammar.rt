@@ -377,7 +377,12 @@ fn journal_command<'a>(alloc: Global) -> Result<Command<'a>, AllocError>
         about: "Prints the entries of a broker's journal, and how it ends",
         example: "Example: mqtt journal /var/lib/mqtt/journal.1",
     };
-    word_command(alloc, texts, "FILE", "A file of the folder of `mqtt broker --data`")
+    word_command(
+        alloc,
+        texts,
+        "FILE",
+        "A file of the folder of `mqtt broker --data`",
+    )
 }
 
 // `password NAME`.

@@ -221,7 +221,10 @@ fn ready_of<'a, R: Clock + Files<File = File>, E: Write>(
 ) -> Result<Ready, StartError<'a>>
     ensures { IfOk result (IsReady words.now.journal options) }
 {
-    match (ready(rt, alloc, options, words.journal, errors), words.journal) {
+    match (
+        ready(rt, alloc, options, words.journal, errors),
+        words.journal,
+    ) {
         (Ok(broker), _) => Ok(broker),
         (Err(error), Some(data)) => Err(StartError::Folder(data.path, error)),
         (Err(_), None) => Err(StartError::Memory),
