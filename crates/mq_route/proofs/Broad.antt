@@ -1,7 +1,8 @@
 -- A connection closes for a SUBSCRIBE that is too broad only at that SUBSCRIBE.
-use Rattle.std.proofs.Common.{◌≡◌, ◌⊎◌, inl, inr, ℕ, ◌≤◌, ◌+◌, ◌*◌, Bool, true, false, not, cond, List, [], ◌∷◌, ◌++◌, length, map, filter, Option, Some, None, refl, sym, ap, subst, ◌∙◌, true≢false, append-nil, arith}
+use Rattle.std.proofs.Common.{◌≡◌, ◌⊎◌, inl, inr, ℕ, ◌≤◌, ◌+◌, ◌*◌, Bool, true, false, not, List, [], ◌∷◌, ◌++◌, length, map, filter, Option, Some, None, refl, sym, ap, subst, ◌∙◌, true≢false, arith}
 use Rattle.std.proofs.lemmas.Bool.{cond_both}
 use Rattle.std.proofs.lemmas.List.{length-append, length-map}
+use Rattle.mq_flow.proofs.Counting.{filter_le}
 use Rattle.mq_topic.specs.Matching.{is_match}
 use Rattle.mq_packet.specs.declared.message.Message.{Message}
 use Rattle.mq_packet.specs.declared.packet.Packet.{Packet}
@@ -21,14 +22,13 @@ use Rattle.mq_route.specs.Copies.{copy, retained_for}
 use Rattle.mq_route.specs.Hub.{HubState, new_hub, stage_of, is_open, key_on, held_on, for_key}
 use Rattle.mq_route.specs.Work.{Work, begin, leaves, retained_copies, close}
 use Rattle.mq_route.specs.Arrives.{Growth, is_too_broad, on_passed_packet, touched, touched_on, dispatch_packet, arrives, takes}
-use Rattle.mq_route.specs.Step.{holding, Comes, Arrives, Waits, Breaks, Starves, LetsGo, Does, event_refusal, told}
-use Rattle.mq_route.specs.Runs.{Episode, Follows}
+use Rattle.mq_route.specs.Step.{holding, Comes, Arrives, Waits, Breaks, Starves, LetsGo, Does, told}
 use Rattle.mq_route.specs.Broad.{if_broad, broad_closes, IsTooBroad, ComesTooBroad, IsBroadEvent, BroadLaws}
 use Rattle.mq_route.proofs.Changes.{Anywhere, anywhere, Freely, freely, Ways, Sound}
-use Rattle.mq_route.proofs.Closings.{May, Few, inner, outer, only, closed}
+use Rattle.mq_route.proofs.Closings.{May, Few, inner, outer, only, close_adds}
 use Rattle.mq_route.proofs.Closings as closings
 use Rattle.mq_route.proofs.Frames.{closed_shut}
-use Rattle.mq_route.proofs.Steps.{heard_mild, stage_heard, takes_both, breaks_both, holding_both, tick_both, ended_both}
+use Rattle.mq_route.proofs.Steps.{stage_heard, takes_both, breaks_both, holding_both, tick_both, ended_both}
 use Rattle.mq_route.proofs.Events.{sound_new}
 use Rattle.mq_route.proofs.Filling.{key_touched, lets_go}
 use Rattle.mq_route.proofs.Output.{sound_run}
@@ -56,7 +56,7 @@ unfolding dispatch_packet
 dispatch_broad k p fits AwaitingConnect now w none x e = absurd cc
 dispatch_broad k p fits (ConnectedAs key terms last_activity) now w none x e =
     cond_both (is_too_broad p w.hub) (close k TooManyMatches fits w) (on_passed_packet k key p fits w) (Leaves k)
-    (λ broad. inr (closed if_broad k TooManyMatches fits w ∙ ap (λ (l : List Conn). l ++ k ∷ []) none, closed_shut k TooManyMatches fits w))
+    (λ broad. inr (close_adds if_broad k TooManyMatches fits w ∙ ap (λ (l : List Conn). l ++ k ∷ []) none, closed_shut k TooManyMatches fits w))
     (λ narrow. absurd (true≢false (sym x.broad ∙ narrow)))
 dispatch_broad k p fits Closed now w none x e = absurd cc
 
@@ -65,7 +65,7 @@ unfolding takes arrives
 takes_broad k p g w none x =
     cond_both g.fits (dispatch_packet k p g.will_fits (stage_of k w.hub.connections) (touched_on k w)) (close k (Own reasons.Memory) g.will_fits w) (Leaves k)
     (λ fits. dispatch_broad k p g.will_fits (stage_of k w.hub.connections) w.hub.clock (touched_on k w) none x (ap key_on (sym (stage_heard k w)) ∙ x.up))
-    (λ starved. inl (closed if_broad k (Own reasons.Memory) g.will_fits w ∙ ap (λ (l : List Conn). l ++ []) none))
+    (λ starved. inl (close_adds if_broad k (Own reasons.Memory) g.will_fits w ∙ ap (λ (l : List Conn). l ++ []) none))
 
 -- the time of activity doesn't matter
 broad_touched : (p : Packet) (k : Conn) (w : Work) → is_too_broad p (touched_on k w).hub ≡ is_too_broad p w.hub
@@ -114,7 +114,7 @@ few_comes limits k b w w2 (Arrives p first rest g v v2 on reads more) s none =
 few_comes limits k b w w2 (Waits c v on pending) s none = inl none
 few_comes limits k b w w2 (Breaks c fault fits v on faulty) s none =
     inl (only (breaks_both (Few if_broad [] ⊥) (May if_broad ⊥) Anywhere (inner if_broad [] ⊥) (outer if_broad [] ⊥) (ways ⊥) anywhere k fault fits v tt tt (s, inl none)).1)
-few_comes limits k b w w2 (Starves c fits v on some) s none = inl (closed if_broad k (Own reasons.Memory) fits v ∙ ap (λ (l : List Conn). l ++ []) none)
+few_comes limits k b w w2 (Starves c fits v on some) s none = inl (close_adds if_broad k (Own reasons.Memory) fits v ∙ ap (λ (l : List Conn). l ++ []) none)
 few_comes limits k b w w2 (LetsGo c v closed) s none = inl none
 
 -- ---- events
@@ -161,21 +161,14 @@ never_event h (Collect k) r w d s none (inr x) = absurd x
 
 -- ---- the number of retained messages that are sent
 
-filter_le : {A : Type 0} (p : A → Bool) (xs : List A) → length (filter p xs) ≤ length xs
-filter_le p [] = omega arith
-filter_le p (x ∷ xs) =
-    let ih = filter_le p xs in
-    cond_both (p x) (x ∷ filter p xs) (filter p xs) (λ (l : List A). length l ≤ length xs + 1) (λ passes. omega arith) (λ fails. omega arith)
-
 -- of one request
 few_for : (key : ℕ) (r : Request) (ms : List Message) → length (for_key key (retained_for r.filter r.qos ms)) ≤ length ms
 unfolding retained_for
 few_for key r ms =
-    let found = filter (λ (m : Message). is_match r.filter m.topic) ms in
-    let copies = length-map found (copy r.qos true) in
-    let pairs = length-map (map (copy r.qos true) found) (λ (m : Message). (key, m)) in
-    let le = filter_le (λ (m : Message). is_match r.filter m.topic) ms in
-    omega arith
+    let found : List Message = filter (λ (m : Message). is_match r.filter m.topic) ms in
+    let same : length (for_key key (retained_for r.filter r.qos ms)) ≡ length found =
+    length-map (map (copy r.qos true) found) (λ (m : Message). (key, m)) ∙ length-map found (copy r.qos true) in
+    subst (λ (n : ℕ). n ≤ length ms) (sym same) (filter_le (λ (m : Message). is_match r.filter m.topic) ms)
 
 few : (key : ℕ) (rs : List Request) (ms : List Message) → length (retained_copies key rs ms) ≤ length rs * length ms
 few key [] ms = omega arith

@@ -1,5 +1,5 @@
 -- The connections that a step closes for a reason.
-use Rattle.std.proofs.Common.{◌≡◌, ◌⊎◌, inl, inr, ℕ, Bool, true, false, List, [], ◌∷◌, ◌++◌, sym, ap, ◌∙◌, append-nil}
+use Rattle.std.proofs.Common.{◌≡◌, ◌⊎◌, inl, inr, ℕ, Bool, true, false, List, [], ◌∷◌, ◌++◌, refl, ap, ◌∙◌, append-nil}
 use Rattle.std.proofs.lemmas.List.Concat.{flat_map-append}
 use Rattle.mq_packet.specs.declared.packet.Packet.{Packet}
 use Rattle.mq_end.specs.declared.reason.CloseReason.{CloseReason}
@@ -124,7 +124,7 @@ module _ (picks : HubClose → Conn → List Conn) where
   left L why fits Closed w e = e
 
   -- a close adds its connection, if its reason is picked
-  pub closed : (k : Conn) (why : HubClose) (fits : Bool) (w : Work) → closes_for picks (close k why fits w).did ≡ closes_for picks w.did ++ picks why k
+  pub close_adds : (k : Conn) (why : HubClose) (fits : Bool) (w : Work) → closes_for picks (close k why fits w).did ≡ closes_for picks w.did ++ picks why k
   unfolding close shut_down closed_by
-  closed k why fits w =
+  close_adds k why fits w =
       left (closes_for picks w.did ++ picks why k) why fits (stage_of k w.hub.connections) (said (acts.Closed k why) (shut k w)) (more w.did (acts.Closed k why))

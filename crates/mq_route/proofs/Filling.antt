@@ -3,7 +3,6 @@ use Rattle.std.proofs.Common.{◌≡◌, ◌⊎◌, inl, inr, ℕ, ◌+◌, ◌<
 use Rattle.std.proofs.lemmas.Bool.{and_from, cond_both, leb-false}
 use Rattle.mq_flow.specs.Sender.{uses}
 use Rattle.mq_flow.specs.Stored.{message_bytes, stored_bytes}
-use Rattle.std.proofs.lemmas.List.Concat.{flat_map-append}
 use Rattle.std.proofs.lemmas.List.Sums.{sum_by-cons}
 use Rattle.std.specs.List.{list_all}
 use Rattle.mq_topic.specs.declared.qos.Qos.{Qos}
@@ -19,7 +18,7 @@ use Rattle.mq_decode.specs.Limits.{Bounds}
 use Rattle.mq_end.specs.declared.reason.CloseReason.TheVariants as reasons
 use Rattle.mq_end.specs.declared.state.State.{State}
 use Rattle.mq_end.specs.declared.state.State.TheVariants.{Connected}
-use Rattle.mq_end.specs.End.{End, Reply, over}
+use Rattle.mq_end.specs.End.{End, Reply}
 use Rattle.mq_flow.specs.Receiver.{is_new}
 use Rattle.mq_flow.specs.Window.{fits_window}
 use Rattle.mq_end.specs.declared.happening.Happening.{Happening}
@@ -30,7 +29,6 @@ use Rattle.mq_end.specs.Both.{has_identifier, stores, publish_gets}
 use Rattle.mq_end.specs.Server.{server_gets, server_gets_in, server_up_gets}
 use Rattle.mq_route.specs.declared.act.Act.{Act}
 use Rattle.mq_route.specs.declared.act.Act.TheVariants as acts
-use Rattle.mq_route.specs.declared.close.HubClose.{HubClose}
 use Rattle.mq_route.specs.declared.close.HubClose.TheVariants.{Own, TargetFull, TooManyMatches}
 use Rattle.mq_route.specs.declared.conn.Conn.{Conn}
 use Rattle.mq_route.specs.declared.event.HubEvent.{HubEvent}
@@ -38,18 +36,17 @@ use Rattle.mq_route.specs.declared.event.HubEvent.TheVariants.{Opened, Bytes, En
 use Rattle.mq_route.specs.declared.reply.HubReply.{HubReply}
 use Rattle.mq_route.specs.declared.connection_state.ConnectionState.{ConnectionState}
 use Rattle.mq_route.specs.declared.connection_state.ConnectionState.TheVariants.{AwaitingConnect, ConnectedAs, Closed}
-use Rattle.mq_route.specs.declared.connection_state.ConnectionTerms.{ConnectionTerms}
 use Rattle.mq_route.specs.Copies.{retained_for}
 use Rattle.mq_route.specs.Routed.{Seen, seen, seen_after, routes, routed_from, copies_for}
-use Rattle.mq_route.specs.Hub.{HubState, HubSession, new_hub, stage_of, is_open, key_on, held_on, up_on, end_of, with_end, for_key}
-use Rattle.mq_route.specs.Work.{Work, begin, said, with_sessions, staged, shut, put_on, put_where, does, drops_copies, leaves, needs, needed_bytes, fits_in, all_fit, have_room, remove, remove_if, retained_copies, will_after, leaves_behind, shut_down, close}
-use Rattle.mq_route.specs.Arrives.{Growth, due, due_by, new_session, touched, touched_on, answers_all, replies, on_passed_packet, is_too_broad, dispatch_packet, arrives, takes}
+use Rattle.mq_route.specs.Hub.{HubState, HubSession, new_hub, stage_of, is_open, key_on, held_on, end_of, for_key}
+use Rattle.mq_route.specs.Work.{Work, begin, put_on, does, drops_copies, leaves, needs, needed_bytes, fits_in, all_fit, have_room, retained_copies, close}
+use Rattle.mq_route.specs.Arrives.{Growth, due, due_by, touched, touched_on, answers_all, replies, on_passed_packet, is_too_broad, dispatch_packet, arrives, takes}
 use Rattle.mq_route.specs.Step.{holding, Comes, Arrives, Waits, Breaks, Starves, LetsGo, Does, event_refusal, told}
 use Rattle.mq_route.specs.Runs.{Episode, Follows, acts_of}
 use Rattle.mq_route.specs.Laws.{for_client}
 use Rattle.mq_route.specs.Full.{if_full, full_closes, IsPublishOrSubscribe, asked_by, asked, identifiers_for, bytes_for, IsShortOf, IsAmong, IsTooMuch, ComesTooMuch, IsFullEvent, FullLaws}
-use Rattle.mq_route.proofs.Changes.{Anywhere, anywhere, Freely, freely, Debt, owes, nothing, Everywhere, Inner, sent_where, Outer, Ways, Sound, closing, rising, sound_put, sound_mild}
-use Rattle.mq_route.proofs.Closings.{May, Few, inner, outer, only, closed}
+use Rattle.mq_route.proofs.Changes.{Anywhere, anywhere, Freely, freely, nothing, Ways, Sound, sound_put, sound_mild}
+use Rattle.mq_route.proofs.Closings.{May, Few, inner, outer, only, close_adds}
 use Rattle.mq_route.proofs.Closings as closings
 use Rattle.mq_route.proofs.Frames.{closed_shut}
 use Rattle.mq_route.proofs.Steps.{heard_mild, stage_heard, takes_both, breaks_both, close_both, holding_both, tick_both, ended_both}
@@ -218,7 +215,7 @@ pub record IsFull (k : Conn) (p : Packet) (w : Work) : Type 0 where
   pub short : have_room (due key w.hub (server_gets p (end_of key w.hub.sessions)).happenings) w.hub ≡ false
 
 full_close : (k : Conn) (fits : Bool) (w : Work) → full_closes w.did ≡ [] → full_closes (close k TargetFull fits w).did ≡ k ∷ []
-full_close k fits w none = closed if_full k TargetFull fits w ∙ ap (λ (l : List Conn). l ++ k ∷ []) none
+full_close k fits w none = close_adds if_full k TargetFull fits w ∙ ap (λ (l : List Conn). l ++ k ∷ []) none
 
 -- a packet closes no connection for a full session, or its own
 abbrev Leaves : Conn → Work → Type 0

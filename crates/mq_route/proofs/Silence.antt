@@ -1,11 +1,7 @@
 -- A tick closes the connections that wait for CONNECT for too long, and no other event does.
 use Rattle.std.proofs.Common.{◌≡◌, inl, ℕ, Bool, true, false, ◌&&◌, cond, List, [], ◌∷◌, ◌++◌, map, filter, max, Option, Some, None, refl, sym, ap, ◌∙◌, append_assoc, append-nil}
-use Rattle.std.proofs.lemmas.List.Concat.{flat_map-append}
-use Rattle.mq_end.specs.End.{End, Reply, over}
 use Rattle.mq_end.specs.KeepAlive.{is_late}
 use Rattle.mq_end.specs.declared.reason.CloseReason.TheVariants as reasons
-use Rattle.mq_route.specs.declared.act.Act.{Act}
-use Rattle.mq_route.specs.declared.act.Act.TheVariants as acts
 use Rattle.mq_route.specs.declared.close.HubClose.{HubClose}
 use Rattle.mq_route.specs.declared.close.HubClose.TheVariants.{Own, NoConnect}
 use Rattle.mq_route.specs.declared.conn.Conn.{Conn}
@@ -14,14 +10,12 @@ use Rattle.mq_route.specs.declared.event.HubEvent.TheVariants.{Opened, Bytes, En
 use Rattle.mq_route.specs.declared.reply.HubReply.{HubReply}
 use Rattle.mq_route.specs.declared.connection_state.ConnectionState.{ConnectionState}
 use Rattle.mq_route.specs.declared.connection_state.ConnectionState.TheVariants.{AwaitingConnect, ConnectedAs, Closed}
-use Rattle.mq_route.specs.declared.connection_state.ConnectionTerms.{ConnectionTerms}
-use Rattle.mq_route.specs.Hub.{HubState, HubConnection, new_hub, stage_of, is_open, held_on, up_on, end_of, with_end}
-use Rattle.mq_route.specs.Work.{Work, begin, said, with_sessions, staged, shut, put_on, put_where, does, remove, remove_if, will_after, leaves_behind, shut_down, close}
-use Rattle.mq_route.specs.Arrives.{new_session}
+use Rattle.mq_route.specs.Hub.{HubState, HubConnection, new_hub, stage_of, is_open, held_on}
+use Rattle.mq_route.specs.Work.{Work, begin, does, close}
 use Rattle.mq_route.specs.Step.{holding, Ticks, Done, InTime, Late, has_passed, late_reason, Does, expire, told}
 use Rattle.mq_route.specs.Silent.{if_silent, silent_closes, awaits_connect, silent, due_closes, SilentLaws}
-use Rattle.mq_route.proofs.Changes.{Anywhere, anywhere, Debt, owes, nothing, Everywhere, Inner, Sends, sent_where, Outer, Ways, Sound, closing, rising}
-use Rattle.mq_route.proofs.Closings.{May, Few, inner, outer, only, closed}
+use Rattle.mq_route.proofs.Changes.{Anywhere, anywhere, Ways, Sound}
+use Rattle.mq_route.proofs.Closings.{May, Few, inner, outer, only, close_adds}
 use Rattle.mq_route.proofs.Closings as closings
 use Rattle.mq_route.proofs.Steps.{comes_both, holding_both, expire_both, ended_both}
 use Rattle.mq_route.proofs.Events.{sound_new}
@@ -65,7 +59,7 @@ ticks within now xs w w2 (InTime x ys v v2 soon later) =
     ticks within now ys v v2 later ∙ ap (λ (l : List Conn). silent_closes v.did ++ l) (sym (one within now x ys None soon))
 ticks within now xs w w2 (Late x ys why fits v v2 late later) =
     ticks within now ys (close x.conn why fits v) v2 later
-    ∙ ap (λ (l : List Conn). l ++ silent within now ys) (closed if_silent x.conn why fits v)
+    ∙ ap (λ (l : List Conn). l ++ silent within now ys) (close_adds if_silent x.conn why fits v)
     ∙ append_assoc (silent_closes v.did) (if_silent why x.conn) (silent within now ys)
     ∙ ap (λ (l : List Conn). silent_closes v.did ++ l) (sym (one within now x ys (Some why) late))
 

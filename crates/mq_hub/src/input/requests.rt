@@ -5,7 +5,7 @@ ghost use Rattle.mq_packet.specs.declared.packet.Packet.TheVariants as packets;
 ghost use Rattle.mq_end.specs.End.{End, closes, is_up};
 ghost use Rattle.mq_end.specs.Server.{server_up_gets};
 ghost use Rattle.mq_end.specs.Sizes.{subscribe_size};
-ghost use Rattle.mq_route.specs.Arrives.{on_connected_packet};
+ghost use Rattle.mq_route.specs.Arrives.{on_connected_packet, on_passed_packet};
 ghost use Rattle.mq_route.specs.Hub.{end_of, is_open, stage_of, up_on};
 ghost use Rattle.mq_route.specs.Work.{leaves};
 ghost use Rattle.mq_hub.specs.Inside.Calls.{RequestsNothing};
@@ -62,9 +62,35 @@ impl<S: FilterStore> HubOver<S> {
         )
     }
 
-    /// Handles a SUBSCRIBE (3.8.4). One that is too broad closes its connection. If the session has
-    /// too few free identifiers for the retained messages (2.3.1), the ones without room are missed,
-    /// or the connection is closed, as the configuration says.
+    // Handles a SUBSCRIBE that is not too broad. If the session has too few free identifiers for the
+    // retained messages (2.3.1), the ones without room are missed, or the connection is closed, as
+    // the configuration says.
+    fn take_narrow(
+        &mut self,
+        conn: Conn,
+        key: ClientKey,
+        id: PacketId,
+        requests: NonEmpty<Request>,
+        log: &mut ActLog,
+    ) -> Result<(), AllocError>
+        requires up { is_some (up_on key self.old.connections) ≡ true }
+        requires within { subscribe_size requests ≤ self.old.config.limits.most }
+        requires room { 3 ≤ log.old.room }
+        ensures goes { OnOk result ((fits : Bool)
+            × Refines (on_passed_packet conn key (packets.Subscribe id requests) fits) self.old log.old.acts self.new log.new.acts) }
+        ensures room { OnOk result (is_open (stage_of conn self.new.connections) ≡ true → 3 ≤ log.new.room) }
+        ensures err { OnErr result (self.new ≡ self.old) }
+        ensures err_acts { OnErr result (log.new.acts ≡ log.old.acts) }
+        ensures err_room { OnErr result (3 ≤ log.new.room) }
+    {
+        if self.on_subscribe(key, id, requests, log)? {
+            return Ok(());
+        }
+        self.close(conn, HubClose::TargetFull, log);
+        Ok(())
+    }
+
+    /// Handles a SUBSCRIBE (3.8.4). One that is too broad closes its connection.
     pub(crate) fn take_subscribe(
         &mut self,
         conn: Conn,
@@ -87,11 +113,7 @@ impl<S: FilterStore> HubOver<S> {
             self.close(conn, HubClose::TooManyMatches, log);
             return Ok(());
         }
-        if self.on_subscribe(key, id, requests, log)? {
-            return Ok(());
-        }
-        self.close(conn, HubClose::TargetFull, log);
-        Ok(())
+        self.take_narrow(conn, key, id, requests, log)
     }
 
     /// Handles a packet other than PUBLISH, SUBSCRIBE and UNSUBSCRIBE (3.1, 3.14, 4.8).
