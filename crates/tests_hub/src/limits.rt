@@ -193,16 +193,10 @@ pub(crate) const MATCHES: [Row; 10] = [
         Happens::Sends(2, "310400016232"),
         "took k0 b 0r 32, placed k1 b 0 32",
     ),
-    (
-        Happens::Sends(1, "8206000200016300"),
-        "set k1 c 0",
-    ),
+    (Happens::Sends(1, "8206000200016300"), "set k1 c 0"),
     (
         Happens::Sends(1, "820a00030001240000016200"),
         "closed 1 C13.",
     ),
-    (
-        Happens::Sends(2, "310400016333"),
-        "took k0 c 0r 33",
-    ),
+    (Happens::Sends(2, "310400016333"), "took k0 c 0r 33"),
 ];

@@ -22,5 +22,8 @@ returns-then-is_too_broad-clause-room g c = λ stays.
 pub returns-clause-goes : goal.returns-clause-goes
 returns-clause-goes g c =
     on_ok c.take_narrow.result
-    (λ goes. (goes.0, narrow_goes c.args.conn c.args.key (packets.Subscribe c.args.id c.args.requests) goes.0 c.args.self.now c.take_narrow.new.self c.args.log.now.acts c.take_narrow.new.log.acts
-    (sym c.is_too_broad.ensures ∙ c.if-is_too_broad.false) goes.1)) c.take_narrow.ensures.goes
+    (λ goes. (
+      goes.0,
+      narrow_goes c.args.conn c.args.key (packets.Subscribe c.args.id c.args.requests) goes.0 c.args.self.now c.take_narrow.new.self c.args.log.now.acts c.take_narrow.new.log.acts
+          (sym c.is_too_broad.ensures ∙ c.if-is_too_broad.false) goes.1,
+    )) c.take_narrow.ensures.goes
