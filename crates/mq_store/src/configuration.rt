@@ -160,7 +160,8 @@ fn put_bounds(out: &mut Vec<u8>, config: &HubConfig) -> Result<(), AllocError>
     put_option(out, config.connect_within)?;
     put_option(out, config.session_expiry)?;
     put_option(out, config.most_stored)?;
-    put_option(out, config.most_waiting)
+    put_option(out, config.most_waiting)?;
+    put_option(out, config.most_matches)
 }
 
 // The fields of a configuration that decide the steps of a broker.
