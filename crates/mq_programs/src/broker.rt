@@ -251,6 +251,7 @@ fn run_logged<'a, R: Net + Clock, W: Write, L: Write + Drop>(
 }
 
 // Runs the broker, with its log in a file or at `errors`.
+#[tactic(auto, using(crate::proofs::Kept::ended))]
 fn run_to_end<'a, R, W, E>(
     rt: &R,
     alloc: Global,
@@ -293,6 +294,7 @@ fn explain_end<E: Write>(errors: &mut E, words: &Broker<'_>, end: BrokerEnd) {
 /// written to its file or to `errors`, and the reason of an early end to `errors`. Returns the
 /// status: 2 for an invalid argument, 1 if the listener, the folder or the journal failed, 3 if an
 /// allocation failed, 4 if the output failed.
+#[tactic(auto, using(crate::proofs::Kept::status_of_end, crate::proofs::Kept::status_of_error))]
 pub fn run_broker_command<R, W, E>(
     rt: &R,
     alloc: Global,
