@@ -344,7 +344,7 @@ def queued(program):
     for keep in ("system", "disk"):
         with tempfile.TemporaryDirectory() as folder:
             with Kept(program, folder, "--keep", keep) as broker:
-                fill_queue(broker, 10)
+                fill_queue(broker, 0, 10)
             with Kept(program, folder, "--keep", keep) as broker:
                 assert broker.events > 10 and broker.sessions == 1, (broker.events, broker.sessions)
                 with resumed(broker, "home") as home:
@@ -352,14 +352,14 @@ def queued(program):
                         assert home.expect(0x30).endswith(b"-%d" % nth)
 
 
-def fill_queue(broker, count):
+def fill_queue(broker, first, count):
     """Lets messages of QoS 1 wait for a session that is away."""
     with Client(broker, "home", clean=False) as home:
         home.subscribe("t/+", 1)
         home.send(DISCONNECT)
         assert home.is_closed()
     with Client(broker, "p") as client:
-        for nth in range(count):
+        for nth in range(first, first + count):
             client.send(publish(f"t/{nth}", b"-%d" % nth, 1, nth + 1))
             client.expect(0x40)
         client.send(DISCONNECT)
@@ -457,44 +457,54 @@ def memory(program):
 
 
 def damage(program):
-    """A cut or changed journal is refused, or gives the broker of the entries before the damage."""
+    """A damaged file of the journal is refused, or the last one is read up to the damage."""
     with tempfile.TemporaryDirectory() as folder:
-        with Kept(program, folder) as broker:
-            fill_queue(broker, 3)
-            broker.kill()
-        with open(f"{folder}/journal.1", "rb") as file:
-            whole = file.read()
-        counts = [start_with(program, folder, journal, where) for where, journal in damaged(whole)]
-        assert {None, 0, 1, 3} <= set(counts), set(counts)
-        print(f"durable: {len(counts)} damaged journals, {counts.count(None)} of them refused")
+        for first in (0, 3):
+            with Kept(program, folder) as broker:
+                fill_queue(broker, first, 3)
+                broker.kill()
+        for name, least in (("journal.1", 6), ("journal.2", 3)):
+            with open(f"{folder}/{name}", "rb") as file:
+                whole = file.read()
+            counts = [start_with(program, folder, name, *it) for it in damaged(whole)]
+            wrong = [it for it in counts if it is not None and not least <= it <= 6]
+            assert not wrong, f"{name}: {len(wrong)} starts gave {set(wrong)} of 6 messages"
+            assert None in counts and (least == 6 or {3, 4, 5} & set(counts)), set(counts)
+            refused = counts.count(None)
+            print(f"durable: {len(counts)} damaged files {name}, {refused} of them refused")
 
 
 def damaged(whole):
-    """The file cut and changed at about a hundred places, each with a description."""
-    for place in range(0, len(whole), max(1, len(whole) // 100)):
+    """The file cut and changed at about a hundred places, gates among them."""
+    places, gate = set(range(0, len(whole), max(1, len(whole) // 70))), 0
+    while gate < len(whole) and whole[gate] == 1:
+        places.add(gate)
+        gate += 9 + int.from_bytes(whole[gate + 1 : gate + 5], "big")
+    for place in sorted(places):
         yield f"cut at {place}", whole[:place]
         for bit in (1, 0x80):
             changed = bytes([whole[place] ^ bit])
             yield f"changed at {place}", whole[:place] + changed + whole[place + 1 :]
 
 
-def start_with(program, folder, journal, where):
-    """Starts a broker with this journal. Returns the number of its messages, None if refused."""
+def start_with(program, folder, name, where, journal):
+    """Starts a broker with this file. Returns the number of its messages, None if refused."""
     with tempfile.TemporaryDirectory() as room:
         shutil.copytree(folder, room, dirs_exist_ok=True)
-        with open(f"{room}/journal.1", "wb") as file:
+        with open(f"{room}/{name}", "wb") as file:
             file.write(journal)
-        list_damaged(program, f"{room}/journal.1", where)
+        list_damaged(program, f"{room}/{name}", where)
         try:
             broker = Kept(program, room)
         except AssertionError as fault:
-            assert re.search(r"mqtt: the folder '.*': (a file|an entry|the broker)", str(fault)), (where, fault)
-            with open(f"{room}/journal.1", "rb") as file:
-                assert file.read() == journal, f"{where}: the journal was changed"
+            reason = r"mqtt: the folder '.*': (a file|an entry|the broker)"
+            assert re.search(reason, str(fault)), (name, where, fault)
+            with open(f"{room}/{name}", "rb") as file:
+                assert file.read() == journal, f"{name} {where}: it was changed"
             return None
         with broker:
             found = messages_of_home(broker)
-            assert found == [b"-%d" % nth for nth in range(len(found))], (where, found)
+            assert found == [b"-%d" % nth for nth in range(len(found))], (name, where, found)
             return len(found)
 
 
