@@ -1,6 +1,6 @@
 //! Rows that brokers over both stores answer alike.
 
-ghost use Rattle.std.specs.Prelude.{◌≡◌, ◌<◌, None, IfOk};
+ghost use Rattle.std.specs.Prelude.{◌≡◌, ◌<◌, None, IfOk, IfSome};
 
 use crate::told::{Happens, Row, all_told, counted, event, listed, told};
 use crate::{dropping, expiring, limits, rows, silent};
@@ -42,6 +42,10 @@ pub(crate) struct Kind {
     pub(crate) most_waiting: Option<u64>,
     /// The number of filters of a SUBSCRIBE times retained messages.
     pub(crate) most_matches: Option<u64>,
+    /// The number of identifiers of QoS 2 messages that a session may store.
+    pub(crate) window: Option<u16>,
+    /// Overlong encodings of lengths are accepted.
+    pub(crate) lenient: bool,
 }
 
 pub(crate) const WIDE: Kind = Kind {
@@ -56,6 +60,8 @@ pub(crate) const WIDE: Kind = Kind {
     most_stored: None,
     most_waiting: None,
     most_matches: None,
+    window: None,
+    lenient: false,
 };
 
 const DROPPING: Kind = Kind {
@@ -68,7 +74,7 @@ const DROPPING: Kind = Kind {
 pub(crate) type Table = (&'static str, Kind, &'static [Row]);
 
 /// All tables of rows.
-pub(crate) const TABLES: [Table; 36] = [
+pub(crate) const TABLES: [Table; 39] = [
     ("refused", WIDE, &rows::REFUSED),
     ("routed", WIDE, &rows::ROUTED),
     ("level", WIDE, &rows::LEVEL),
@@ -165,6 +171,23 @@ pub(crate) const TABLES: [Table; 36] = [
         &limits::MATCHES,
     ),
     (
+        "window",
+        Kind {
+            window: Some(1),
+            ..WIDE
+        },
+        &limits::WINDOW,
+    ),
+    (
+        "lenient",
+        Kind {
+            lenient: true,
+            ..WIDE
+        },
+        &limits::LENIENT,
+    ),
+    ("strict", WIDE, &limits::STRICT),
+    (
         "crowded",
         Kind {
             max_conns: 1,
@@ -249,12 +272,17 @@ fn hashed_users(alloc: Global, kind: Kind) -> Result<Option<BoxedList<HashedUser
 
 pub(crate) fn config(alloc: Global, kind: Kind) -> Result<HubConfig, Fail>
     ensures capacity { IfOk result (λ c. 0 < c.capacity) }
-    ensures window { IfOk result (λ c. c.window ≡ None) }
+    ensures window { IfOk result (λ c. IfSome c.window (λ most. 0 < most)) }
 {
+    let limits = if kind.lenient {
+        Limits::lenient(1_048_576)
+    } else {
+        Limits::new(1_048_576)
+    };
     Ok(HubConfig {
-        limits: Limits::new(1_048_576).ok_or("no limits")?,
+        limits: limits.ok_or("no limits")?,
         capacity: kind.capacity.max(1),
-        window: None,
+        window: kind.window.map(|most| most.max(1)),
         max_conns: kind.max_conns,
         max_sessions: kind.max_sessions,
         users: users(alloc, kind)?,

@@ -200,3 +200,34 @@ pub(crate) const MATCHES: [Row; 10] = [
     ),
     (Happens::Sends(2, "310400016333"), "took k0 c 0r 33"),
 ];
+
+/// A client may have one identifier of QoS 2 in use. The same one again is no second one, and one
+/// more closes the connection (4.3.3).
+pub(crate) const WINDOW: [Row; 7] = [
+    (Happens::Opens(1), ""),
+    (Happens::Sends(1, PUBLISHER), "up 1 k0 new"),
+    (Happens::Sends(1, "3406000161000131"), "took k0 a 2 31"),
+    (Happens::Sends(1, "3c06000161000131"), ""),
+    (Happens::Sends(1, "62020001"), ""),
+    (Happens::Sends(1, "3406000161000232"), "took k0 a 2 32"),
+    (
+        Happens::Sends(1, "3406000161000333"),
+        "closed 1 C11, removed k0.",
+    ),
+];
+
+// CONNECT with a length in two bytes where one is enough.
+const OVERLONG: &str = "108d0000044d51545404020000000170";
+
+/// A broker that is lenient accepts a length that is longer than it must be (2.2.3).
+pub(crate) const LENIENT: [Row; 3] = [
+    (Happens::Opens(1), ""),
+    (Happens::Sends(1, OVERLONG), "up 1 k0 new"),
+    (Happens::Sends(1, "c08000"), ""),
+];
+
+/// Any other broker closes the connection.
+pub(crate) const STRICT: [Row; 2] = [
+    (Happens::Opens(1), ""),
+    (Happens::Sends(1, OVERLONG), "closed 1 C1."),
+];
