@@ -4,7 +4,7 @@ ghost use Rattle.std.specs.Prelude.{◌≡◌, ◌*◌, option_map, IfOk};
 ghost use Rattle.mq_programs.specs.Kept.{IsBrokerStatus, IsEnded, IsReady, MayEnd};
 ghost use Rattle.mq_programs.specs.Options.{start_status, when_full_of};
 
-use crate::kept::{Ready, ready};
+use crate::kept::{Ready, recover};
 use mq_broker::{BrokerEnd, BrokerOptions, Log, LogLevel, OpenError};
 use mq_cli::{Broker, OnFull};
 use mq_route::WhenFull;
@@ -213,7 +213,7 @@ fn log_file<'a, R: Files<File = File>>(
     }
 }
 
-// The broker of the arguments, ready to run.
+// The broker of the arguments, which is recovered first if it has a folder.
 fn ready_of<'a, R: Clock + Files<File = File>, E: Write>(
     rt: &R,
     alloc: Global,
@@ -223,13 +223,12 @@ fn ready_of<'a, R: Clock + Files<File = File>, E: Write>(
 ) -> Result<Ready, StartError<'a>>
     ensures { IfOk result (IsReady words.now.journal options) }
 {
-    match (
-        ready(rt, alloc, options, words.journal, errors),
-        words.journal,
-    ) {
-        (Ok(broker), _) => Ok(broker),
-        (Err(error), Some(data)) => Err(StartError::Folder(data.path, error)),
-        (Err(_), None) => Err(StartError::Memory),
+    let Some(data) = words.journal else {
+        return Ok(Ready::Plain(options));
+    };
+    match recover(rt, alloc, options, data, errors) {
+        Ok(broker) => Ok(Ready::Kept(broker)),
+        Err(error) => Err(StartError::Folder(data.path, error)),
     }
 }
 
@@ -251,7 +250,7 @@ fn run_logged<'a, R: Net + Clock, W: Write, L: Write + Drop>(
 }
 
 // Runs the broker, with its log in a file or at `errors`.
-#[tactic(auto, using(crate::proofs::Kept::ended))]
+#[tactic(auto, using(crate::proofs::Ends::ended))]
 fn run_to_end<'a, R, W, E>(
     rt: &R,
     alloc: Global,
@@ -294,7 +293,7 @@ fn explain_end<E: Write>(errors: &mut E, words: &Broker<'_>, end: BrokerEnd) {
 /// written to its file or to `errors`, and the reason of an early end to `errors`. Returns the
 /// status: 2 for an invalid argument, 1 if the listener, the folder or the journal failed, 3 if an
 /// allocation failed, 4 if the output failed.
-#[tactic(auto, using(crate::proofs::Kept::status_of_end, crate::proofs::Kept::status_of_error))]
+#[tactic(auto, using(crate::proofs::Ends::status_of_end, crate::proofs::Ends::status_of_error))]
 pub fn run_broker_command<R, W, E>(
     rt: &R,
     alloc: Global,

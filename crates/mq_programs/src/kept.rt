@@ -1,11 +1,11 @@
 //! A broker that is ready to run, with a journal or without one.
 
-ghost use Rattle.std.specs.Prelude.{◌≡◌, ◌≢◌, IfErr, IfOk};
+ghost use Rattle.std.specs.Prelude.{◌≡◌, IfErr, IfOk};
 ghost use Rattle.mq_broker.specs.Configuration.{configuration};
 ghost use Rattle.mq_broker.specs.End.{IsPacketLimit};
 ghost use Rattle.mq_broker.specs.Recovered.{IsRecovered};
 ghost use Rattle.mq_broker.specs.declared.open_error.OpenError.TheVariants.{PacketLimit};
-ghost use Rattle.mq_programs.specs.Kept.{IsReady, MayEnd, keep_of};
+ghost use Rattle.mq_programs.specs.Kept.{MayEnd, keep_of};
 ghost use Rattle.mq_route.specs.Hub.{new_hub};
 
 use mq_broker::{BrokerEnd, BrokerOptions, Log, OpenError, RecoveredBroker, run_broker};
@@ -66,8 +66,8 @@ fn milliseconds_since<R: Clock>(rt: &R, began: io::Result<Instant>) -> u128 {
     }
 }
 
-// Recovers a broker from its folder, and writes to `errors` how much was recovered.
-fn recover<R: Clock + Files<File = File>, E: Write>(
+/// Recovers a broker from its folder, and writes to `errors` how much was recovered.
+pub(crate) fn recover<R: Clock + Files<File = File>, E: Write>(
     rt: &R,
     alloc: Global,
     options: BrokerOptions,
@@ -87,25 +87,4 @@ fn recover<R: Clock + Files<File = File>, E: Write>(
         "recovered {events} events, {sessions} sessions in {time} ms"
     );
     Ok(broker)
-}
-
-/// Makes a broker ready. One with a folder is recovered, and `errors` gets a line that says so.
-pub(crate) fn ready<R: Clock + Files<File = File>, E: Write>(
-    rt: &R,
-    alloc: Global,
-    options: BrokerOptions,
-    journal: Option<DataFolder<'_>>,
-    errors: &mut E,
-) -> Result<Ready, OpenError>
-    ensures ready { IfOk result (IsReady journal options) }
-    ensures kept { IfErr result (λ _. journal ≢ None) }
-    ensures refused { IfErr result (λ error. error ≡ PacketLimit → ¬ (IsPacketLimit options.max_packet)) }
-{
-    match journal {
-        Some(data) => {
-            let broker = recover(rt, alloc, options, data, errors)?;
-            Ok(Ready::Kept(broker))
-        }
-        None => Ok(Ready::Plain(options)),
-    }
 }
