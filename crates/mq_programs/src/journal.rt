@@ -15,10 +15,7 @@ use std::rt::Files;
 fn is_begun(bytes: &[u8]) -> bool
     ensures { (result ≡ true) ↔ IsBegun bytes.now }
 {
-    match bytes {
-        [] => true,
-        [gate, ..] => *gate <= 1,
-    }
+    bytes.is_empty() || bytes[0] <= 1
 }
 
 fn read_file<R: Files<File = File>>(rt: &R, alloc: Global, name: &str) -> io::Result<Vec<u8>> {
