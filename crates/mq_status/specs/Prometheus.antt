@@ -2,6 +2,7 @@
 -- help and a line with its type.
 use Rattle.std.specs.Prelude.{ℕ, ◌+◌, ◌-◌, ◌/◌, ◌%◌, List, [], ◌∷◌, ◌++◌, length, replicate, slice_index, codes, decimal}
 use Rattle.std.specs.List.{flat_map}
+use Rattle.mq_status.specs.Counting.{Numbers}
 use Rattle.mq_status.specs.declared.metrics.Gauges.{Gauges}
 
 -- the two lines at the head of a family
@@ -92,6 +93,15 @@ rounds_text counts =
     ++ (seconds_text (slice_index counts 41)
     ++ (codes "mqtt_round_seconds_count " ++ (decimal (slice_index counts 40) ++ codes "\n")))
 
+abbrev pub counters_text : List ℕ → List ℕ
+counters_text counts =
+    messages_text counts ++ (missed_text counts
+    ++ (closed_text counts
+    ++ (refused_text counts
+    ++ (sessions_text counts
+    ++ (wills_text counts
+    ++ (traffic_text counts ++ rounds_text counts))))))
+
 -- ---- gauges
 
 abbrev pub gauges_text : Gauges → List ℕ
@@ -105,3 +115,8 @@ abbrev pub memory_text : Gauges → List ℕ
 memory_text gauges =
     single_text (codes "mqtt_stored_messages") (codes "Messages stored in sessions.") (codes "gauge") gauges.stored_messages
     ++ single_text (codes "mqtt_pending_bytes") (codes "Bytes pending on connections.") (codes "gauge") gauges.pending_bytes
+
+-- ---- all metrics
+
+abbrev pub prometheus_text : Numbers → List ℕ
+prometheus_text numbers = gauges_text numbers.gauges ++ (memory_text numbers.gauges ++ counters_text numbers.counts)

@@ -3,7 +3,7 @@
 ghost use Rattle.std.specs.Prelude.{◌++◌, ◌<◌, codes, OnOk};
 ghost use Rattle.std.specs.Io.KnownBytes.{Appends};
 ghost use Rattle.std.specs.List.{flat_map};
-ghost use Rattle.mq_status.specs.Prometheus.{by_qos_text, closed_text, gauges_text, head_text, memory_text, messages_text, missed_text, refused_text, rounds_text, sample_text, seconds_text, sessions_text, single_text, traffic_text, wills_text};
+ghost use Rattle.mq_status.specs.Prometheus.{by_qos_text, closed_text, counters_text, gauges_text, head_text, memory_text, messages_text, missed_text, prometheus_text, refused_text, rounds_text, sample_text, seconds_text, sessions_text, single_text, traffic_text, wills_text};
 
 use crate::counter::COUNTERS;
 use crate::metrics::{Gauges, Metrics};
@@ -333,7 +333,10 @@ fn write_memory<W: Write>(output: &mut W, gauges: Gauges) -> io::Result<()>
 }
 
 // Writes the counters.
-fn write_counters<W: Write>(output: &mut W, counts: &[u64; COUNTERS]) -> io::Result<()> {
+fn write_counters<W: Write>(output: &mut W, counts: &[u64; COUNTERS]) -> io::Result<()>
+    ensures { OnOk result (Appends (W.contents output.old) (W.contents output.new)
+        (counters_text counts.now)) }
+{
     write_messages(output, counts)?;
     write_missed(output, counts)?;
     write_closed(output, counts)?;
@@ -345,7 +348,10 @@ fn write_counters<W: Write>(output: &mut W, counts: &[u64; COUNTERS]) -> io::Res
 }
 
 /// Appends the metrics in the text format of Prometheus, version 0.0.4.
-pub fn write_prometheus<W: Write>(output: &mut W, metrics: &Metrics) -> io::Result<()> {
+pub fn write_prometheus<W: Write>(output: &mut W, metrics: &Metrics) -> io::Result<()>
+    ensures { OnOk result (Appends (W.contents output.old) (W.contents output.new)
+        (prometheus_text metrics.now)) }
+{
     write_gauges(output, metrics.gauges())?;
     write_memory(output, metrics.gauges())?;
     write_counters(output, metrics.counts())
