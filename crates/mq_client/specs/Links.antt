@@ -1,23 +1,31 @@
 -- Names of files that symbolic links lead to.
-use Rattle.std.specs.Prelude.{ℕ, Bool, false, List, [], ◌∷◌, ◌++◌, Option, None, Some, codes, ◌==◌, if◌then◌else◌}
-use Rattle.std.specs.Path.{rsplit_once, slash}
+use Rattle.std.specs.Prelude.{◌≡◌, ◌≢◌, ◌⊎◌, ℕ, zero, suc, ◌<◌, Bool, true, false, List, [], ◌∷◌, ◌++◌, ◌==◌, codes, length, take, slice_index}
 
--- the name begins at the root
+-- the name begins at the root, with `/`
 abbrev pub is_absolute : List ℕ → Bool
 is_absolute [] = false
-is_absolute (byte ∷ bytes) = byte == slash
+is_absolute (byte ∷ bytes) = byte == 47
 
--- a target in the folder of a link, whose name is split at its last `/`
-abbrev pub in_folder : List ℕ → Option (List ℕ × List ℕ) → List ℕ
-in_folder target None = target
-in_folder target (Some split) = split.0 ++ (codes "/" ++ target)
+-- the name has no `/` from this place on
+abbrev pub IsWithoutFrom : ℕ → List ℕ → Type 0
+IsWithoutFrom place name = (i : ℕ) → place < i → i < length name → slice_index name i ≢ 47
 
--- the name that a link with this target leads to: relative to the folder of the link, unless the
--- target begins at the root
-abbrev pub named_by : List ℕ → List ℕ → List ℕ
-named_by link target = if is_absolute target then target else in_folder target (rsplit_once slash link)
+-- the last `/` of the name is at this place
+pub record IsLastSlash (place : ℕ) (name : List ℕ) : Type 0 where
+  pub within : place < length name
+  pub here : slice_index name place ≡ 47
+  pub last : IsWithoutFrom place name
 
--- the name that is reached by links with these targets, one after another
-abbrev pub followed : List ℕ → List (List ℕ) → List ℕ
-followed name [] = name
-followed name (target ∷ targets) = followed (named_by name target) targets
+-- A link with this target leads to a name: the target in the folder of the link, unless the target
+-- begins at the root or the link is in no folder.
+pub data IsNamedBy (link target : List ℕ) : List ℕ → Type 0 where
+  Absolute : is_absolute target ≡ true → IsNamedBy link target target
+  Bare : is_absolute target ≡ false → ((i : ℕ) → i < length link → slice_index link i ≢ 47) → IsNamedBy link target target
+  InFolder : (place : ℕ) → is_absolute target ≡ false → IsLastSlash place link
+      → IsNamedBy link target (take place link ++ (codes "/" ++ target))
+
+-- this number of links, one after another, lead from a name to another
+pub data Reaches : ℕ → List ℕ → List ℕ → Type 0 where
+  Here : (name : List ℕ) → Reaches zero name name
+  More : (links : ℕ) (name link target found : List ℕ) → Reaches links name link → IsNamedBy link target found
+      → Reaches (suc links) name found

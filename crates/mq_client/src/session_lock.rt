@@ -1,7 +1,7 @@
 //! The lock of a session in a file.
 
-ghost use Rattle.std.specs.Prelude.{◌≡◌, ◌≤◌, ◌++◌, ℕ, List, codes, length, string_bytes, IfOk, IfSome};
-ghost use Rattle.mq_client.specs.Links.{followed, named_by};
+ghost use Rattle.std.specs.Prelude.{◌≡◌, ◌≤◌, ◌++◌, ℕ, codes, string_bytes, IfOk, IfSome};
+ghost use Rattle.mq_client.specs.Links.{IsNamedBy, Reaches, is_absolute};
 
 use crate::disk::OWNER_ONLY;
 use std::alloc::{AllocError, Global};
@@ -18,20 +18,36 @@ const MOST_LINKS: u32 = 40;
 /// The maximum number of lock files that other runs may remove while the lock is taken.
 const MOST_TRIES: u32 = 1_000;
 
+// Whether a name begins at the root.
+fn is_absolute(name: &str) -> bool
+    ensures { result ≡ is_absolute name.now }
+{
+    match name.as_bytes() {
+        [first, ..] => *first == b'/',
+        [] => false,
+    }
+}
+
 // The name that a symbolic link gives: relative to the folder of the link, unless it is absolute.
 fn beside(alloc: Global, link: &str, target: &str) -> Result<String, AllocError>
-    ensures { IfOk result (λ name. string_bytes name ≡ named_by link.now target.now) }
+    ensures { IfOk result (λ name. IsNamedBy link.now target.now (string_bytes name)) }
 {
-    match (target.as_bytes(), link.rsplit_once('/')) {
-        ([b'/', ..], _) | (_, None) => String::from_str(alloc, target),
-        (_, Some((folder, _))) => format!(in alloc; "{folder}/{target}"),
+    if is_absolute(target) {
+        return String::from_str(alloc, target);
+    }
+    match link.rfind('/') {
+        Some(at) => {
+            let folder = &link[..at];
+            format!(in alloc; "{folder}/{target}")
+        }
+        None => String::from_str(alloc, target),
     }
 }
 
 /// The name of the file that a name leads to through symbolic links. The file may be missing.
 pub fn linked_name<R: Files>(rt: &R, alloc: Global, name: &str) -> io::Result<String>
-    ensures { IfOk result (λ found. (targets : List (List ℕ))
-        × (length targets ≤ 40) × (string_bytes found ≡ followed name.now targets)) }
+    ensures { IfOk result (λ found. (links : ℕ)
+        × (links ≤ 40) × Reaches links name.now (string_bytes found)) }
 {
     let mut name = String::from_str(alloc, name)?;
     for nth in 0..MOST_LINKS {
