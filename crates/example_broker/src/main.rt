@@ -105,6 +105,7 @@ fn new_hub(alloc: Global, limits: Limits) -> Hub {
             session_expiry: None,
             most_stored: None,
             most_waiting: None,
+            most_matches: None,
         },
     )
 }

@@ -77,6 +77,7 @@ pub(crate) fn broker(alloc: Global) -> anyhow::Result<Hub> {
         session_expiry: None,
         most_stored: None,
         most_waiting: None,
+        most_matches: None,
     };
     Ok(Hub::new(alloc, config))
 }

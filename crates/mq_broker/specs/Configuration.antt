@@ -19,4 +19,5 @@ configuration options = record {
   session_expiry = options.session_expiry;
   most_stored = Some options.max_stored;
   most_waiting = Some options.max_waiting;
+  most_matches = Some options.max_matches;
 }

@@ -34,6 +34,10 @@ pub struct BrokerOptions {
     pub max_stored: u64,
     /// The number of pending output bytes of a connection beyond which it misses messages of QoS 0.
     pub max_waiting: u64,
+    /// The maximum number of comparisons of filters with retained messages for one SUBSCRIBE: the
+    /// number of its filters times that of retained messages (3.8.4). One that exceeds it closes
+    /// its connection.
+    pub max_matches: u64,
     /// The time in milliseconds after which the session of a client that is not connected is
     /// removed; `None` to keep it (3.1.2.4).
     pub session_expiry: Option<u64>,
@@ -86,6 +90,7 @@ impl BrokerOptions {
         ensures session_expiry { result.session_expiry ≡ self.session_expiry }
         ensures stored { result.most_stored ≡ Some self.max_stored }
         ensures waiting { result.most_waiting ≡ Some self.max_waiting }
+        ensures matches { result.most_matches ≡ Some self.max_matches }
     {
         HubConfig {
             limits,
@@ -100,6 +105,7 @@ impl BrokerOptions {
             session_expiry: self.session_expiry,
             most_stored: Some(self.max_stored),
             most_waiting: Some(self.max_waiting),
+            most_matches: Some(self.max_matches),
         }
     }
 }

@@ -157,6 +157,7 @@ pub record IsBroker (command : Option (Text × List Row)) (broker : Broker) : Ty
   pub capacity : IsLimit command (codes "CAPACITY") 1000 broker.capacity
   pub max_stored : IsLimit command (codes "MAX_STORED") 16777216 broker.max_stored
   pub max_waiting : IsLimit command (codes "MAX_WAITING") 1048576 broker.max_waiting
+  pub max_matches : IsLimit command (codes "MAX_MATCHES") 1000000 broker.max_matches
   pub session_expiry : IsExpiry command broker.session_expiry
   pub connect_within : IsPatience command broker.connect_within
   pub when_full : IsOnFull command broker.when_full

@@ -101,10 +101,11 @@ socket_words = with_subcommand (with_subcommand (with_subcommand job_words serve
 abbrev pub limit_rule : Text → Text → ValueParser → Rule
 limit_rule word name kind = record (new_rule word) { long = Some name; parser = Some kind }
 
--- the numbers of connections and of sessions: numbers of 32 bits
+-- the numbers of connections, sessions, and comparisons of filters with retained messages: numbers
+-- of 32 bits
 abbrev pub with_tables : App → App
 with_tables app =
-    with_rule (with_rule app (limit_rule (codes "MAX_CONNECTIONS") (codes "max-connections") (Signed (pos 0) (pos 4294967295)))) (limit_rule (codes "MAX_SESSIONS") (codes "max-sessions") (Signed (pos 0) (pos 4294967295)))
+    with_rule (with_rule (with_rule app (limit_rule (codes "MAX_CONNECTIONS") (codes "max-connections") (Signed (pos 0) (pos 4294967295)))) (limit_rule (codes "MAX_SESSIONS") (codes "max-sessions") (Signed (pos 0) (pos 4294967295)))) (limit_rule (codes "MAX_MATCHES") (codes "max-matches") (Signed (pos 0) (pos 4294967295)))
 
 -- the limits of packets, sessions and pending output
 abbrev pub with_limits : App → App

@@ -41,6 +41,8 @@ pub struct Broker<'a> {
     pub max_stored: u32,
     /// The number of output bytes beyond which a connection misses messages of QoS 0.
     pub max_waiting: u32,
+    /// The maximum number of filters of a SUBSCRIBE times retained messages (3.8.4).
+    pub max_matches: u32,
     /// The seconds after which the session of an absent client is removed, at least 1; `None` to
     /// keep it (3.1.2.4).
     pub session_expiry: Option<u32>,
@@ -90,9 +92,15 @@ fn with_tables<'a>(alloc: Global, command: Command<'a>) -> Result<Command<'a>, A
     )?;
     let help = "The maximum number of sessions [default: 100000]";
     let kind = value_parser!(u32);
-    with_arg(
+    let command = with_arg(
         command,
         limit(alloc, "MAX_SESSIONS", "max-sessions", help, kind),
+    )?;
+    let help = "The maximum filters of a SUBSCRIBE times retained messages [default: 1000000]";
+    let kind = value_parser!(u32);
+    with_arg(
+        command,
+        limit(alloc, "MAX_MATCHES", "max-matches", help, kind),
     )
 }
 
@@ -309,6 +317,7 @@ pub(crate) fn broker_of<'a>(matches: &ArgMatches<'a>) -> Option<Broker<'a>>
         capacity: limit_of_16_bits(matches, "CAPACITY", 1_000)?,
         max_stored: limit_of_32_bits(matches, "MAX_STORED", 16_777_216)?,
         max_waiting: limit_of_32_bits(matches, "MAX_WAITING", 1_048_576)?,
+        max_matches: limit_of_32_bits(matches, "MAX_MATCHES", 1_000_000)?,
         session_expiry: expiry_of(matches)?,
         connect_within: patience_of(matches)?,
         when_full: on_full_of(matches)?,

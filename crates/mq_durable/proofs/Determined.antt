@@ -18,7 +18,7 @@ use Rattle.mq_end.specs.Server.{server_gets}
 use Rattle.mq_route.specs.declared.act.Act.TheVariants as acts
 use Rattle.mq_route.specs.declared.conn.Conn.{Conn}
 use Rattle.mq_route.specs.declared.close.HubClose.{HubClose}
-use Rattle.mq_route.specs.declared.close.HubClose.TheVariants.{Own, TargetFull, TakenOver, PeerEnded}
+use Rattle.mq_route.specs.declared.close.HubClose.TheVariants.{Own, TargetFull, TooManyMatches, TakenOver, PeerEnded}
 use Rattle.mq_route.specs.declared.connection_state.ConnectionState.{ConnectionState}
 use Rattle.mq_route.specs.declared.connection_state.ConnectionState.TheVariants.{AwaitingConnect, ConnectedAs, Closed}
 use Rattle.mq_route.specs.declared.event.HubEvent.{HubEvent}
@@ -27,7 +27,7 @@ use Rattle.mq_route.specs.declared.reply.HubReply.{HubReply}
 use Rattle.mq_route.specs.Hub.{HubState, HubConnection, without_connection, stage_of, is_open, key_on, up_on, key_of, end_of, with_end, with_left, held_on}
 use Rattle.mq_route.specs.Welcome.{client_of, ends_with, refusal}
 use Rattle.mq_route.specs.Work.{Work, begin, said, with_sessions, shut, put_on, does, have_room, last_will, will_after, remove_if, leaves_behind, shut_down, close}
-use Rattle.mq_route.specs.Arrives.{Growth, due, answers_all, replies, take_over, goes_on, accept_connect, on_connect, on_first_packet, dispatch_packet, touched_on, arrives, noted, takes, closes_by, broken, on_malformed}
+use Rattle.mq_route.specs.Arrives.{Growth, due, answers_all, replies, take_over, goes_on, accept_connect, on_connect, on_first_packet, is_too_broad, on_passed_packet, dispatch_packet, touched_on, arrives, noted, takes, closes_by, broken, on_malformed}
 use Rattle.mq_route.specs.Step.{holding, is_open_on, Comes, Arrives, Waits, Breaks, Starves, LetsGo, Ticks, Done, InTime, Late, Does, done, ended, ended_open, expire, told}
 use Rattle.mq_route.specs.Runs.{Episode, Follows}
 use Rattle.mq_durable.specs.Determined.{ReplayLaws}
@@ -107,7 +107,12 @@ first_same k p fits w quiet = close_same k (Own reasons.Unexpected) fits w quiet
 dispatch_same : (k : Conn) (p : Packet) (fits : Bool) (s : ConnectionState) (w : Work) → IsQuiet (dispatch_packet k p fits s w) → dispatch_packet k p fits s w ≡ dispatch_packet k p true s w
 unfolding dispatch_packet
 dispatch_same k p fits AwaitingConnect w quiet = first_same k p fits w quiet
-dispatch_same k p fits (ConnectedAs key terms last_activity) w quiet = replies_same k key (server_gets p) (server_gets p (end_of key w.hub.sessions)).close fits w quiet
+dispatch_same k p fits (ConnectedAs key terms last_activity) w quiet = go (is_too_broad p w.hub) quiet
+  where
+    go : (b : Bool) → IsQuiet (if b then close k TooManyMatches fits w else on_passed_packet k key p fits w)
+        → (if b then close k TooManyMatches fits w else on_passed_packet k key p fits w) ≡ (if b then close k TooManyMatches true w else on_passed_packet k key p true w)
+    go true quiet = close_same k TooManyMatches fits w quiet
+    go false quiet = replies_same k key (server_gets p) (server_gets p (end_of key w.hub.sessions)).close fits w quiet
 dispatch_same k p fits Closed w quiet = refl
 
 abbrev dispatched : Conn → Packet → Work → Bool → Work

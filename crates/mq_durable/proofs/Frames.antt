@@ -25,7 +25,7 @@ use Rattle.mq_route.specs.declared.act.Act.{Act}
 use Rattle.mq_route.specs.declared.act.Act.TheVariants as acts
 use Rattle.mq_route.specs.declared.conn.Conn.{Conn}
 use Rattle.mq_route.specs.declared.close.HubClose.{HubClose}
-use Rattle.mq_route.specs.declared.close.HubClose.TheVariants.{Own, TargetFull, TakenOver, PeerEnded}
+use Rattle.mq_route.specs.declared.close.HubClose.TheVariants.{Own, TargetFull, TooManyMatches, TakenOver, PeerEnded}
 use Rattle.mq_route.specs.declared.event.HubEvent.{HubEvent}
 use Rattle.mq_route.specs.declared.event.HubEvent.TheVariants.{Opened, Bytes, Ended, Tick, Collect}
 use Rattle.mq_route.specs.declared.reply.HubReply.{HubReply}
@@ -35,7 +35,7 @@ use Rattle.mq_route.specs.Copies.{will_message, kept}
 use Rattle.mq_route.specs.Hub.{HubState, HubConnection, is_connection, with_connection, without_connection, stage_of, is_open, held_on, up_on, key_of, end_of, with_end, copies_of}
 use Rattle.mq_route.specs.Welcome.{client_of, ends_with, refusal}
 use Rattle.mq_route.specs.Work.{Work, begin, said, with_connections, with_sessions, staged, shut, put_on, put_where, does, publishes_next, place, place_all, have_room, is_missed, deliver, remove, last_will, will_after, remove_if, leaves_behind, shut_down, close, subscribed, unsubscribed, retained_copies}
-use Rattle.mq_route.specs.Arrives.{Growth, granted, due, answers, answers_all, replies, greeting, terms_of, resume_session, new_session, start_session, take_over, goes_on, accept_connect, on_connect, on_first_packet, dispatch_packet, touched, touched_on, arrives, takes, closes_by, broken, on_malformed}
+use Rattle.mq_route.specs.Arrives.{Growth, granted, due, answers, answers_all, replies, greeting, terms_of, resume_session, new_session, start_session, take_over, goes_on, accept_connect, on_connect, on_first_packet, is_too_broad, on_passed_packet, dispatch_packet, touched, touched_on, arrives, takes, closes_by, broken, on_malformed}
 use Rattle.mq_route.specs.Step.{holding, Comes, Arrives, Waits, Breaks, Starves, LetsGo, Ticks, Done, InTime, Late, Does, HubStep, ended_open, expire, expired_keys, remove_all, told}
 use Rattle.mq_route.specs.Routed.{same_conn}
 
@@ -187,7 +187,9 @@ first_stays k p fits w = close_stays k (Own reasons.Unexpected) fits w
 dispatch_stays : (k : Conn) (p : Packet) (fits : Bool) (s : ConnectionState) (w : Work) → frame (dispatch_packet k p fits s w).hub ≡ frame w.hub
 unfolding dispatch_packet
 dispatch_stays k p fits AwaitingConnect w = first_stays k p fits w
-dispatch_stays k p fits (ConnectedAs key terms last_activity) w = replies_stay k key (server_gets p) (server_gets p (end_of key w.hub.sessions)).close fits w
+dispatch_stays k p fits (ConnectedAs key terms last_activity) w =
+    cond_both (is_too_broad p w.hub) (close k TooManyMatches fits w) (on_passed_packet k key p fits w) (λ v. frame v.hub ≡ frame w.hub)
+    (λ broad. close_stays k TooManyMatches fits w) (λ narrow. replies_stay k key (server_gets p) (server_gets p (end_of key w.hub.sessions)).close fits w)
 dispatch_stays k p fits Closed w = refl
 
 arrives_stay : (k : Conn) (p : Packet) (g : Growth) (w : Work) → frame (arrives k p g w).hub ≡ frame w.hub

@@ -23,14 +23,14 @@ use Rattle.mq_route.specs.declared.act.Act.{Act}
 use Rattle.mq_route.specs.declared.act.Act.TheVariants as acts
 use Rattle.mq_route.specs.declared.conn.Conn.{Conn}
 use Rattle.mq_route.specs.declared.close.HubClose.{HubClose}
-use Rattle.mq_route.specs.declared.close.HubClose.TheVariants.{Own, TargetFull, TakenOver}
+use Rattle.mq_route.specs.declared.close.HubClose.TheVariants.{Own, TargetFull, TooManyMatches, TakenOver}
 use Rattle.mq_route.specs.declared.connection_state.ConnectionState.{ConnectionState}
 use Rattle.mq_route.specs.declared.connection_state.ConnectionState.TheVariants.{AwaitingConnect, ConnectedAs, Closed}
 use Rattle.mq_route.specs.Copies.{will_message, kept}
 use Rattle.mq_route.specs.Hub.{HubConnection, stage_of, up_on, key_of, end_of, with_end, copies_of}
 use Rattle.mq_route.specs.Welcome.{client_of, ends_with, refusal}
 use Rattle.mq_route.specs.Work.{Work, said, with_sessions, staged, shut, put_on, put_where, does, publishes_next, is_missed, place, place_all, have_room, deliver, remove, last_will, will_after, remove_if, leaves_behind, shut_down, close, subscribed, unsubscribed, retained_copies}
-use Rattle.mq_route.specs.Arrives.{Growth, granted, due, answers, answers_all, replies, greeting, terms_of, resume_session, new_session, start_session, take_over, goes_on, accept_connect, on_connect, on_first_packet, dispatch_packet, touched_on, arrives, takes, closes_by, broken, on_malformed}
+use Rattle.mq_route.specs.Arrives.{Growth, granted, due, answers, answers_all, replies, greeting, terms_of, resume_session, new_session, start_session, take_over, goes_on, accept_connect, on_connect, on_first_packet, is_too_broad, on_passed_packet, dispatch_packet, touched_on, arrives, takes, closes_by, broken, on_malformed}
 use Rattle.mq_route.specs.Step.{holding, Comes, Arrives, Waits, Breaks, Starves, LetsGo, Ticks, Done, InTime, Late}
 use Rattle.mq_durable.specs.Memory.{lacks_memory}
 
@@ -211,7 +211,9 @@ first_grows k p fits w = close_grows k (Own reasons.Unexpected) fits w
 dispatch_grows : (k : Conn) (p : Packet) (fits : Bool) (s : ConnectionState) (w : Work) → Grows w (dispatch_packet k p fits s w)
 unfolding dispatch_packet
 dispatch_grows k p fits AwaitingConnect w = first_grows k p fits w
-dispatch_grows k p fits (ConnectedAs key terms last_activity) w = replies_grow k key (server_gets p) (server_gets p (end_of key w.hub.sessions)).close fits w
+dispatch_grows k p fits (ConnectedAs key terms last_activity) w =
+    cond_both (is_too_broad p w.hub) (close k TooManyMatches fits w) (on_passed_packet k key p fits w) (Grows w)
+    (λ broad. close_grows k TooManyMatches fits w) (λ narrow. replies_grow k key (server_gets p) (server_gets p (end_of key w.hub.sessions)).close fits w)
 dispatch_grows k p fits Closed w = still w w refl
 
 arrives_grows : (k : Conn) (p : Packet) (g : Growth) (w : Work) → Grows w (arrives k p g w)

@@ -17,11 +17,11 @@ use Rattle.mq_end.specs.Server.{server_gets, subacks, unsubacks}
 use Rattle.mq_route.specs.declared.act.Act.{Act}
 use Rattle.mq_route.specs.declared.act.Act.TheVariants as acts
 use Rattle.mq_route.specs.declared.close.HubClose.{HubClose}
-use Rattle.mq_route.specs.declared.close.HubClose.TheVariants.{Own, TargetFull, TakenOver}
+use Rattle.mq_route.specs.declared.close.HubClose.TheVariants.{Own, TargetFull, TooManyMatches, TakenOver}
 use Rattle.mq_route.specs.declared.conn.Conn.{Conn}
 use Rattle.mq_route.specs.declared.connection_state.ConnectionState.{ConnectionState}
 use Rattle.mq_route.specs.declared.connection_state.ConnectionState.TheVariants.{AwaitingConnect, ConnectedAs, Closed}
-use Rattle.mq_route.specs.Arrives.{Growth, accept_connect, answers, answers_all, arrives, on_first_packet, dispatch_packet, due, granted, resume_session, greeting, start_session}
+use Rattle.mq_route.specs.Arrives.{Growth, accept_connect, answers, answers_all, arrives, on_first_packet, is_too_broad, on_passed_packet, dispatch_packet, due, granted, resume_session, greeting, start_session}
 use Rattle.mq_route.specs.Arrives.{goes_on, touched_on, new_session, replies, take_over, takes, terms_of, on_connect}
 use Rattle.mq_route.specs.Copies.{will_message}
 use Rattle.mq_route.specs.Hub.{HubState, HubConnection, changed, copies_of, end_of, is_connection, stage_of, up_on, with_end, with_connection}
@@ -243,7 +243,10 @@ config_at_first k packets.Disconnect fits w = config_close k _ fits w
 config_comes_in : (k : Conn) (p : Packet) (fits : Bool) (s : ConnectionState) (w : Work) → (dispatch_packet k p fits s w).hub.config ≡ w.hub.config
 unfolding dispatch_packet
 config_comes_in k p fits AwaitingConnect w = config_at_first k p fits w
-config_comes_in k p fits (ConnectedAs key terms last_activity) w = config_replies k key (server_gets p) (server_gets p (end_of key w.hub.sessions)).close fits w
+config_comes_in k p fits (ConnectedAs key terms last_activity) w =
+    cond_both (is_too_broad p w.hub) (close k _ fits w) (on_passed_packet k key p fits w) (λ (v : Work). v.hub.config ≡ w.hub.config)
+    (λ e. config_close k _ fits w)
+    (λ e. config_replies k key (server_gets p) (server_gets p (end_of key w.hub.sessions)).close fits w)
 config_comes_in k p fits Closed w = refl
 
 config_arrives : (k : Conn) (p : Packet) (g : Growth) (w : Work) → (arrives k p g w).hub.config ≡ w.hub.config

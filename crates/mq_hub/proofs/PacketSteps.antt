@@ -11,7 +11,7 @@ use Rattle.mq_route.specs.declared.act.Act.{Act}
 use Rattle.mq_route.specs.declared.close.HubClose.TheVariants.{TargetFull}
 use Rattle.mq_route.specs.declared.config.HubConfig.{HubConfig}
 use Rattle.mq_route.specs.declared.conn.Conn.{Conn}
-use Rattle.mq_route.specs.Arrives.{answers, answers_all, due, due_by, replies, on_connected_packet}
+use Rattle.mq_route.specs.Arrives.{answers, answers_all, due, due_by, replies, on_passed_packet}
 use Rattle.mq_route.specs.Hub.{HubState, end_of, up_on}
 use Rattle.mq_route.specs.Work.{Work, close, does, have_room}
 use Rattle.mq_hub.specs.declared.sessions.call.Call.TheVariants.{Takes}
@@ -29,7 +29,7 @@ use Rattle.mq_hub.proofs.EndReplies.{end_there, packet_stays}
 module _ (conn : Conn) (key : ℕ) (p : Packet) (fits : Bool) where
   -- it reports nothing
   silent : (w : Work) → (server_gets p (end_of key w.hub.sessions)).close ≡ None → (server_gets p (end_of key w.hub.sessions)).happenings ≡ []
-      → on_connected_packet conn key p fits w ≡ does key (server_gets p) w
+      → on_passed_packet conn key p fits w ≡ does key (server_gets p) w
   unfolding replies
   silent w stays tells =
       ap (λ (o : Option CloseReason). replies conn key (server_gets p) o fits w) stays
@@ -38,7 +38,7 @@ module _ (conn : Conn) (key : ℕ) (p : Packet) (fits : Bool) where
 
   -- it reports something for which there is room
   telling : (h : Happening) (w : Work) → (server_gets p (end_of key w.hub.sessions)).close ≡ None → (server_gets p (end_of key w.hub.sessions)).happenings ≡ h ∷ []
-      → have_room (due_by key w.hub h) w.hub ≡ true → on_connected_packet conn key p fits w ≡ answers conn key h (does key (server_gets p) w)
+      → have_room (due_by key w.hub h) w.hub ≡ true → on_passed_packet conn key p fits w ≡ answers conn key h (does key (server_gets p) w)
   unfolding replies
   telling h w stays tells room =
       ap (λ (o : Option CloseReason). replies conn key (server_gets p) o fits w) stays
@@ -48,7 +48,7 @@ module _ (conn : Conn) (key : ℕ) (p : Packet) (fits : Bool) where
 
   -- a session is too full for the copies
   full : (h : Happening) (w : Work) → (server_gets p (end_of key w.hub.sessions)).close ≡ None → (server_gets p (end_of key w.hub.sessions)).happenings ≡ h ∷ []
-      → have_room (due_by key w.hub h) w.hub ≡ false → on_connected_packet conn key p fits w ≡ close conn TargetFull fits w
+      → have_room (due_by key w.hub h) w.hub ≡ false → on_passed_packet conn key p fits w ≡ close conn TargetFull fits w
   unfolding replies
   full h w stays tells room =
       ap (λ (o : Option CloseReason). replies conn key (server_gets p) o fits w) stays
@@ -60,18 +60,18 @@ module _ (conn : Conn) (key : ℕ) (p : Packet) (fits : Bool) where
     stays_at : (w : Work) → w.hub ≡ old → (server_gets p (end_of key w.hub.sessions)).close ≡ None
     stays_at w at = ap (λ (h : HubState). (server_gets p (end_of key h.sessions)).close) at ∙ stays
 
-    pub silent_goes : (server_gets p (end_of key old.sessions)).happenings ≡ [] → Refines (does key (server_gets p)) old did new says → Refines (on_connected_packet conn key p fits) old did new says
+    pub silent_goes : (server_gets p (end_of key old.sessions)).happenings ≡ [] → Refines (does key (server_gets p)) old did new says → Refines (on_passed_packet conn key p fits) old did new says
     silent_goes tells goes =
-        let is : (w : Work) → w.hub ≡ old → on_connected_packet conn key p fits w ≡ does key (server_gets p) w =
+        let is : (w : Work) → w.hub ≡ old → on_passed_packet conn key p fits w ≡ does key (server_gets p) w =
         λ w at. silent w (stays_at w at) (ap (λ (h : HubState). (server_gets p (end_of key h.sessions)).happenings) at ∙ tells) in record {
           hub = λ w at said. ap (λ (v : Work). v.hub) (is w at) ∙ goes.hub w at said;
           did = λ w at said. ap (λ (v : Work). v.did) (is w at) ∙ goes.did w at said;
         }
 
     pub telling_goes : (h : Happening) → (server_gets p (end_of key old.sessions)).happenings ≡ h ∷ [] → have_room (due_by key old h) old ≡ true
-        → Refines (λ w. answers conn key h (does key (server_gets p) w)) old did new says → Refines (on_connected_packet conn key p fits) old did new says
+        → Refines (λ w. answers conn key h (does key (server_gets p) w)) old did new says → Refines (on_passed_packet conn key p fits) old did new says
     telling_goes h tells room goes =
-        let is : (w : Work) → w.hub ≡ old → on_connected_packet conn key p fits w ≡ answers conn key h (does key (server_gets p) w) =
+        let is : (w : Work) → w.hub ≡ old → on_passed_packet conn key p fits w ≡ answers conn key h (does key (server_gets p) w) =
         λ w at. telling h w (stays_at w at) (ap (λ (a : HubState). (server_gets p (end_of key a.sessions)).happenings) at ∙ tells)
         (ap (λ (a : HubState). have_room (due_by key a h) a) at ∙ room) in record {
           hub = λ w at said. ap (λ (v : Work). v.hub) (is w at) ∙ goes.hub w at said;
@@ -79,9 +79,9 @@ module _ (conn : Conn) (key : ℕ) (p : Packet) (fits : Bool) where
         }
 
     pub full_goes : (h : Happening) → (server_gets p (end_of key old.sessions)).happenings ≡ h ∷ [] → have_room (due_by key old h) old ≡ false
-        → Refines (close conn TargetFull fits) old did new says → Refines (on_connected_packet conn key p fits) old did new says
+        → Refines (close conn TargetFull fits) old did new says → Refines (on_passed_packet conn key p fits) old did new says
     full_goes h tells room goes =
-        let is : (w : Work) → w.hub ≡ old → on_connected_packet conn key p fits w ≡ close conn TargetFull fits w =
+        let is : (w : Work) → w.hub ≡ old → on_passed_packet conn key p fits w ≡ close conn TargetFull fits w =
         λ w at. full h w (stays_at w at) (ap (λ (a : HubState). (server_gets p (end_of key a.sessions)).happenings) at ∙ tells)
         (ap (λ (a : HubState). have_room (due_by key a h) a) at ∙ room) in record {
           hub = λ w at said. ap (λ (v : Work). v.hub) (is w at) ∙ goes.hub w at said;

@@ -8,7 +8,7 @@ ghost use Rattle.mq_end.specs.declared.happening.Happening.TheVariants as happen
 ghost use Rattle.mq_route.specs.declared.act.Act.{Act};
 ghost use Rattle.mq_route.specs.declared.close.HubClose.TheVariants as whys;
 ghost use Rattle.mq_route.specs.declared.conn.Conn.{Conn};
-ghost use Rattle.mq_route.specs.Arrives.{answers, granted, on_connected_packet};
+ghost use Rattle.mq_route.specs.Arrives.{answers, granted, on_passed_packet};
 ghost use Rattle.mq_route.specs.Hub.{HubState, for_key, up_on};
 ghost use Rattle.mq_route.specs.Work.{close, have_room, retained_copies};
 ghost use Rattle.mq_hub.specs.Inside.Requests.{AreAlike, Subscribes};
@@ -122,10 +122,10 @@ impl<S: FilterStore> HubOver<S> {
         ensures goes { result ≡ Ok true → (conn : Conn)
             → Refines (answers conn key (happens.Subscribe id requests)) self.old log.old.acts self.new log.new.acts }
         ensures takes { result ≡ Ok true → (conn : Conn) (fits : Bool)
-            → Refines (on_connected_packet conn key (packets.Subscribe id requests) fits) self.old log.old.acts self.new log.new.acts }
+            → Refines (on_passed_packet conn key (packets.Subscribe id requests) fits) self.old log.old.acts self.new log.new.acts }
         ensures closed { result ≡ Ok false → (conn : Conn) (fits : Bool) (new : HubState) (says : List Act)
             → Refines (close conn whys.TargetFull fits) self.old log.old.acts new says
-            → Refines (on_connected_packet conn key (packets.Subscribe id requests) fits) self.old log.old.acts new says }
+            → Refines (on_passed_packet conn key (packets.Subscribe id requests) fits) self.old log.old.acts new says }
         ensures room { result ≡ Ok true → 3 ≤ log.new.room }
         ensures full { result ≡ Ok false → self.new ≡ self.old }
         ensures err { OnErr result (self.new ≡ self.old) }

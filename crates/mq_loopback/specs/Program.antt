@@ -19,7 +19,7 @@ use Rattle.mq_loopback.specs.Printed.{bad_line, collected_lines, play_end_line, 
 
 -- the broker that the programs run
 abbrev pub program_broker : HubConfig
-program_broker = record { limits = strict 1048576; capacity = 100; window = None; max_conns = 1000; max_sessions = 1000; users = None; hashed_users = None; when_full = ClosePublisher; connect_within = None; session_expiry = None; most_stored = None; most_waiting = None }
+program_broker = record { limits = strict 1048576; capacity = 100; window = None; max_conns = 1000; max_sessions = 1000; users = None; hashed_users = None; when_full = ClosePublisher; connect_within = None; session_expiry = None; most_stored = None; most_waiting = None; most_matches = None }
 
 -- The messages of each client are sorted and printed, followed by the verdict on the journal and
 -- the receipts.

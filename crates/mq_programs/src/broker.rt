@@ -131,6 +131,7 @@ fn open_options(
     ensures capacity { result.capacity ≡ words.now.capacity }
     ensures stored { result.max_stored ≡ words.now.max_stored }
     ensures waiting { result.max_waiting ≡ words.now.max_waiting }
+    ensures matches { result.max_matches ≡ words.now.max_matches }
     ensures session_expiry { result.session_expiry
         ≡ option_map (λ seconds. seconds * 1000) words.now.session_expiry }
     ensures when_full { result.when_full ≡ when_full_of words.now.when_full }
@@ -146,6 +147,7 @@ fn open_options(
         capacity: words.capacity,
         max_stored: u64::from(words.max_stored),
         max_waiting: u64::from(words.max_waiting),
+        max_matches: u64::from(words.max_matches),
         session_expiry: milliseconds_of(words.session_expiry),
         when_full: when_full_of(words.when_full),
         connect_within: milliseconds_of(words.connect_within),

@@ -29,6 +29,7 @@ fn config() -> Option<HubConfig>
         session_expiry: None,
         most_stored: None,
         most_waiting: None,
+        most_matches: None,
     })
 }
 

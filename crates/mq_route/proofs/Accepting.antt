@@ -37,7 +37,7 @@ use Rattle.mq_end.specs.Server.{opens, refuses, server_gets, server_gets_in, ser
 use Rattle.mq_route.specs.declared.act.Act.{Act}
 use Rattle.mq_route.specs.declared.act.Act.TheVariants as acts
 use Rattle.mq_route.specs.declared.close.HubClose.{HubClose}
-use Rattle.mq_route.specs.declared.close.HubClose.TheVariants.{Own, TargetFull, TakenOver, PeerEnded}
+use Rattle.mq_route.specs.declared.close.HubClose.TheVariants.{Own, TargetFull, TakenOver, PeerEnded, TooManyMatches}
 use Rattle.mq_route.specs.declared.config.HubConfig.{HubConfig}
 use Rattle.mq_route.specs.declared.conn.Conn.{Conn}
 use Rattle.mq_route.specs.declared.event.HubEvent.{HubEvent}
@@ -50,7 +50,7 @@ use Rattle.mq_route.specs.Copies.{is_hidden_name, copy_by, will_message}
 use Rattle.mq_route.specs.Hub.{HubState, HubSession, HubConnection, new_hub, new_end, no_end, stage_of, key_on, changed, held_on, is_open, up_on, key_of, end_of, with_end, with_left, without_session, for_key, copies_of}
 use Rattle.mq_route.specs.Welcome.{client_of, refusal, ends_with}
 use Rattle.mq_route.specs.Work.{Work, begin, said, with_sessions, staged, shut, put_on, put_where, does, drops_copies, is_missed, have_room, deliver, place, place_all, publishes_next, remove, remove_if, last_will, will_after, leaves_behind, shut_down, close, subscribed, unsubscribed, retained_copies}
-use Rattle.mq_route.specs.Arrives.{Growth, granted, due, answers, answers_all, replies, greeting, terms_of, resume_session, new_session, start_session, take_over, goes_on, accept_connect, on_connect, on_first_packet, dispatch_packet, touched_on, arrives, takes, closes_by, broken, on_malformed}
+use Rattle.mq_route.specs.Arrives.{Growth, granted, due, answers, answers_all, replies, greeting, terms_of, resume_session, new_session, start_session, take_over, goes_on, accept_connect, on_connect, on_first_packet, on_passed_packet, is_too_broad, dispatch_packet, touched_on, arrives, takes, closes_by, broken, on_malformed}
 use Rattle.mq_route.specs.Step.{holding, Comes, Arrives, Waits, Breaks, Starves, LetsGo, Ticks, Done, InTime, Late, Does, ended_open, expired_keys, remove_all, expire, told}
 use Rattle.mq_route.specs.Runs.{Episode, Follows}
 use Rattle.mq_route.specs.Dropped.{when_over}
@@ -613,7 +613,14 @@ module _ (config : HubConfig) (ids : IdentifierLaws) (next : NextLaws) (sound : 
   packet_goes : (k : Conn) (p : Packet) (fits : Bool) (s : ConnectionState) (w : Work) → Kept w → Goes w (in_packet k p fits s w) (dispatch_packet k p fits s w)
   unfolding dispatch_packet
   packet_goes k p fits AwaitingConnect w h = first_goes k p fits w h
-  packet_goes k p fits (ConnectedAs key terms last_activity) w h = replies_go k key p (server_gets p (end_of key w.hub.sessions)).close fits w h
+  packet_goes k p fits (ConnectedAs key terms last_activity) w h = go (is_too_broad p w.hub)
+    where
+      passed : List Placing
+      passed = in_replies k key (server_gets p) (server_gets p (end_of key w.hub.sessions)).close fits w
+
+      go : (b : Bool) → Goes w (cond b (in_close k TooManyMatches fits w) passed) (cond b (close k TooManyMatches fits w) (on_passed_packet k key p fits w))
+      go true = close_goes k TooManyMatches fits w h
+      go false = replies_go k key p (server_gets p (end_of key w.hub.sessions)).close fits w h
   packet_goes k p fits Closed w h = quiet w w (λ c. refl) h
 
   arrives_goes : (k : Conn) (p : Packet) (g : Growth) (w : Work) → Kept w → Goes w (in_takes k p g w) (arrives k p g w)

@@ -3,7 +3,6 @@ use Rattle.std.proofs.Common.{◌≡◌, ◌⊎◌, inl, inr, ℕ, ◌+◌, ◌<
 use Rattle.std.proofs.lemmas.Bool.{and_from, cond_both, leb-false}
 use Rattle.mq_flow.specs.Sender.{uses}
 use Rattle.mq_flow.specs.Stored.{message_bytes, stored_bytes}
-use Rattle.std.proofs.lemmas.List.Concat.{flat_map-append}
 use Rattle.std.proofs.lemmas.List.Sums.{sum_by-cons}
 use Rattle.std.specs.List.{list_all}
 use Rattle.mq_topic.specs.declared.qos.Qos.{Qos}
@@ -19,7 +18,7 @@ use Rattle.mq_decode.specs.Limits.{Bounds}
 use Rattle.mq_end.specs.declared.reason.CloseReason.TheVariants as reasons
 use Rattle.mq_end.specs.declared.state.State.{State}
 use Rattle.mq_end.specs.declared.state.State.TheVariants.{Connected}
-use Rattle.mq_end.specs.End.{End, Reply, over}
+use Rattle.mq_end.specs.End.{End, Reply}
 use Rattle.mq_flow.specs.Receiver.{is_new}
 use Rattle.mq_flow.specs.Window.{fits_window}
 use Rattle.mq_end.specs.declared.happening.Happening.{Happening}
@@ -30,26 +29,25 @@ use Rattle.mq_end.specs.Both.{has_identifier, stores, publish_gets}
 use Rattle.mq_end.specs.Server.{server_gets, server_gets_in, server_up_gets}
 use Rattle.mq_route.specs.declared.act.Act.{Act}
 use Rattle.mq_route.specs.declared.act.Act.TheVariants as acts
-use Rattle.mq_route.specs.declared.close.HubClose.{HubClose}
-use Rattle.mq_route.specs.declared.close.HubClose.TheVariants.{Own, TargetFull}
+use Rattle.mq_route.specs.declared.close.HubClose.TheVariants.{Own, TargetFull, TooManyMatches}
 use Rattle.mq_route.specs.declared.conn.Conn.{Conn}
 use Rattle.mq_route.specs.declared.event.HubEvent.{HubEvent}
 use Rattle.mq_route.specs.declared.event.HubEvent.TheVariants.{Opened, Bytes, Ended, Tick, Collect}
 use Rattle.mq_route.specs.declared.reply.HubReply.{HubReply}
 use Rattle.mq_route.specs.declared.connection_state.ConnectionState.{ConnectionState}
 use Rattle.mq_route.specs.declared.connection_state.ConnectionState.TheVariants.{AwaitingConnect, ConnectedAs, Closed}
-use Rattle.mq_route.specs.declared.connection_state.ConnectionTerms.{ConnectionTerms}
 use Rattle.mq_route.specs.Copies.{retained_for}
 use Rattle.mq_route.specs.Routed.{Seen, seen, seen_after, routes, routed_from, copies_for}
-use Rattle.mq_route.specs.Hub.{HubState, HubSession, new_hub, stage_of, is_open, key_on, held_on, up_on, end_of, with_end, for_key}
-use Rattle.mq_route.specs.Work.{Work, begin, said, with_sessions, staged, shut, put_on, put_where, does, drops_copies, leaves, needs, needed_bytes, fits_in, all_fit, have_room, remove, remove_if, retained_copies, will_after, leaves_behind, shut_down, close}
-use Rattle.mq_route.specs.Arrives.{Growth, due, due_by, new_session, touched, touched_on, answers_all, replies, dispatch_packet, arrives, takes}
+use Rattle.mq_route.specs.Hub.{HubState, HubSession, new_hub, stage_of, is_open, key_on, held_on, end_of, for_key}
+use Rattle.mq_route.specs.Work.{Work, begin, put_on, does, drops_copies, leaves, needs, needed_bytes, fits_in, all_fit, have_room, retained_copies, close}
+use Rattle.mq_route.specs.Arrives.{Growth, due, due_by, touched, touched_on, answers_all, replies, on_passed_packet, is_too_broad, dispatch_packet, arrives, takes}
 use Rattle.mq_route.specs.Step.{holding, Comes, Arrives, Waits, Breaks, Starves, LetsGo, Does, event_refusal, told}
 use Rattle.mq_route.specs.Runs.{Episode, Follows, acts_of}
 use Rattle.mq_route.specs.Laws.{for_client}
-use Rattle.mq_route.specs.Full.{if_full, full_by, full_closes, IsPublishOrSubscribe, asked_by, asked, identifiers_for, bytes_for, IsShortOf, IsAmong, IsTooMuch, ComesTooMuch, IsFullEvent, FullLaws}
-use Rattle.mq_route.proofs.Changes.{Anywhere, anywhere, Freely, freely, Debt, owes, nothing, Everywhere, Inner, sent_where, Outer, Ways, Sound, closing, rising, sound_put, sound_mild}
-use Rattle.mq_route.proofs.Walk.{last_will_keeps}
+use Rattle.mq_route.specs.Full.{if_full, full_closes, IsPublishOrSubscribe, asked_by, asked, identifiers_for, bytes_for, IsShortOf, IsAmong, IsTooMuch, ComesTooMuch, IsFullEvent, FullLaws}
+use Rattle.mq_route.proofs.Changes.{Anywhere, anywhere, Freely, freely, nothing, Ways, Sound, sound_put, sound_mild}
+use Rattle.mq_route.proofs.Closings.{May, Few, inner, outer, only, close_adds}
+use Rattle.mq_route.proofs.Closings as closings
 use Rattle.mq_route.proofs.Frames.{closed_shut}
 use Rattle.mq_route.proofs.Steps.{heard_mild, stage_heard, takes_both, breaks_both, close_both, holding_both, tick_both, ended_both}
 use Rattle.mq_route.proofs.Events.{sound_new}
@@ -60,90 +58,9 @@ use Rattle.mq_route.proofs.Reading as reading
 use Rattle.mq_route.specs.declared.config.HubConfig.{HubConfig}
 use Rattle.mq_route.specs.declared.config.WhenFull.TheVariants.{ClosePublisher, DropCopy}
 
--- ---- one more act
-
--- an act that closes no connection for a full session
-more : (did : List Act) (act : Act) → full_by act ≡ [] → full_closes (did ++ act ∷ []) ≡ full_closes did
-more did act none = flat_map-append full_by did (act ∷ []) ∙ ap (λ (l : List Conn). full_closes did ++ (l ++ [])) none ∙ append-nil (full_closes did)
-
--- these connections closed for a full session, or there is a reason for more
-module _ (L : List Conn) (X : Type 0) where
-  abbrev Few : Debt → Work → Type 0
-  Few o w = (full_closes w.did ≡ L) ⊎ X
-
-  abbrev May : HubClose → Type 0
-  May why = ((k : Conn) → if_full why k ≡ []) ⊎ X
-
-  few_more : (did : List Act) (act : Act) → full_by act ≡ [] → (full_closes did ≡ L) ⊎ X → (full_closes (did ++ act ∷ []) ≡ L) ⊎ X
-  few_more did act none (inl e) = inl (more did act none ∙ e)
-  few_more did act none (inr x) = inr x
-
-  put_few : (k : Conn) (ps : List Packet) (o : Debt) (w : Work) → Few o w → Few o (put_on k ps w)
-  unfolding put_on
-  put_few k ps o w r = r
-
-  inner : Inner Everywhere Few
-  unfolding full_by
-  inner = record {
-    put = λ k ps o w own plain r. put_few k ps o w r;
-    moves = λ key e o w alike r. r;
-    marks = λ key now o w r. r;
-    took = λ key m t n w r. few_more w.did (acts.Took key m) refl r;
-    willed = λ key m w r. few_more w.did (acts.Will key m) refl r;
-    placed = λ key m ps c t n w copy r.
-        let v = put_where (up_on key w.hub.connections) ps w in
-        few_more v.did (acts.Placed key m) refl (sent_where Few put_few (up_on key w.hub.connections) ps (owes ((key, m) ∷ c) t n) w r);
-    missed = λ key m c t n w is r. few_more w.did (acts.Missed key m) refl r;
-    subscribed = λ key f q c t n w r. few_more w.did (acts.Subscribed key f q) refl r;
-    unsubscribed = λ key f o w r. few_more w.did (acts.Unsubscribed key f) refl r;
-  }
-
-  closed_few : (k : Conn) (why : HubClose) (did : List Act) → May why → (full_closes did ≡ L) ⊎ X → (full_closes (did ++ acts.Closed k why ∷ []) ≡ L) ⊎ X
-  unfolding full_by
-  closed_few k why did (inl none) r = few_more did (acts.Closed k why) (none k) r
-  closed_few k why did (inr x) r = inr x
-
-  drops_few : (key : ℕ) (w : Work) → Few nothing w → Few nothing (said (acts.WillDropped key) w)
-  unfolding full_by
-  drops_few key w r = few_more w.did (acts.WillDropped key) refl r
-
-  removes_few : (key : ℕ) (w : Work) → Few nothing w → Few nothing (remove key w)
-  unfolding remove full_by
-  removes_few key w r = few_more w.did (acts.Removed key) refl r
-
-  remove_if_few : (b : Bool) (key : ℕ) (w : Work) → Few nothing w → Few nothing (remove_if b key w)
-  remove_if_few true key w r = removes_few key w r
-  remove_if_few false key w r = r
-
-  begins_few : (client : List ℕ) (w : Work) → Few nothing w → Few nothing (new_session client w)
-  unfolding new_session
-  begins_few client w r = r
-
-  rises_few : (k : Conn) (key : ℕ) (terms : ConnectionTerms) (last_activity : ℕ) (move : End → Reply) (present : Bool) (w : Work) → Few nothing w → Few nothing (rising k key terms last_activity move present w)
-  unfolding does full_by
-  rises_few k key terms last_activity move present w r =
-      let v = staged k (ConnectedAs key terms last_activity) w in
-      let e = end_of key w.hub.sessions in
-      let u = with_sessions (with_end key (move e).end) v in
-      let d = put_where (up_on key v.hub.connections) (move e).out u in
-      few_more d.did (acts.Up k key present) refl (sent_where Few put_few (up_on key v.hub.connections) (move e).out nothing u r)
-
-  outer : Outer Everywhere Few May Anywhere
-  outer = record {
-    mild = λ f k o w m r. r;
-    gets = λ key p w s there up g r. r;
-    noted = λ n w r. r;
-    shuts = λ k why w may s free r. closed_few k why w.did may r;
-    closes = λ k why key terms last_activity w may s e r.
-        remove_if_few terms.clean_session key (with_sessions (with_end key (over (end_of key w.hub.sessions))) (said (acts.Closed k why) (shut k w))) (closed_few k why w.did may r);
-    drops = λ k why key terms last_activity fits w near stage m has short r. drops_few key (closing k why key terms w) r;
-    removes = λ key w s none r. removes_few key w r;
-    begins = λ client w s r. begins_few client w r;
-    rises = λ k key terms last_activity move present w own s known free none there up clean received plain r. rises_few k key terms last_activity move present w r;
-  }
-
-  ways : Ways May
-  ways = record { own = λ reason. inl (λ k. refl); over = inl (λ k. refl); peer = inl (λ k. refl) }
+-- no cause is needed for a close for another reason
+ways : (X : Type 0) → Ways (May if_full X)
+ways X = closings.ways if_full X (λ reason k. refl) (λ k. refl) (λ k. refl)
 
 -- ---- room
 
@@ -297,25 +214,8 @@ pub record IsFull (k : Conn) (p : Packet) (w : Work) : Type 0 where
   pub state : (end_of key w.hub.sessions).state ≡ Connected
   pub short : have_room (due key w.hub (server_gets p (end_of key w.hub.sessions)).happenings) w.hub ≡ false
 
-only : {A : Type 0} → A ⊎ ⊥ → A
-only (inl a) = a
-only (inr x) = absurd x
-
--- the connections that are closed for a full session stay these while a connection closes
-left_full : (L : List Conn) (why : HubClose) (fits : Bool) (s : ConnectionState) (w : Work) → full_closes w.did ≡ L → full_closes (leaves_behind why fits s w).did ≡ L
-unfolding leaves_behind
-left_full L why fits AwaitingConnect w e = e
-left_full L why fits (ConnectedAs key terms last_activity) w e =
-    let u = with_sessions (with_end key (over (end_of key w.hub.sessions))) w in
-    only (last_will_keeps (Few L ⊥) (inner L ⊥) key (will_after why terms.will) fits (remove_if terms.clean_session key u)
-    (λ m is short h. drops_few L ⊥ key (remove_if terms.clean_session key u) h) (remove_if_few L ⊥ terms.clean_session key u (inl e)))
-left_full L why fits Closed w e = e
-
 full_close : (k : Conn) (fits : Bool) (w : Work) → full_closes w.did ≡ [] → full_closes (close k TargetFull fits w).did ≡ k ∷ []
-unfolding close shut_down full_by
-full_close k fits w none =
-    left_full (k ∷ []) TargetFull fits (stage_of k w.hub.connections) (said (acts.Closed k TargetFull) (shut k w))
-    (flat_map-append full_by w.did (acts.Closed k TargetFull ∷ []) ∙ ap (λ (l : List Conn). l ++ k ∷ []) none)
+full_close k fits w none = close_adds if_full k TargetFull fits w ∙ ap (λ (l : List Conn). l ++ k ∷ []) none
 
 -- a packet closes no connection for a full session, or its own
 abbrev Leaves : Conn → Work → Type 0
@@ -323,7 +223,11 @@ Leaves k w = (full_closes w.did ≡ []) ⊎ ((full_closes w.did ≡ k ∷ []) ×
 
 own_close : (k : Conn) (reason : CloseReason) (fits : Bool) (w : Work) → Sound w.hub → full_closes w.did ≡ [] → Leaves k (close k (Own reason) fits w)
 own_close k reason fits w s none =
-    inl (only (close_both (Few [] ⊥) (May [] ⊥) Anywhere (inner [] ⊥) (outer [] ⊥) (ways [] ⊥) anywhere k (Own reason) fits w tt (inl (λ k. refl)) (s, inl none)).1)
+    inl (only (close_both (Few if_full [] ⊥) (May if_full ⊥) Anywhere (inner if_full [] ⊥) (outer if_full [] ⊥) (ways ⊥) anywhere k (Own reason) fits w tt (inl (λ k. refl)) (s, inl none)).1)
+
+broad_close : (k : Conn) (fits : Bool) (w : Work) → Sound w.hub → full_closes w.did ≡ [] → Leaves k (close k TooManyMatches fits w)
+broad_close k fits w s none =
+    inl (only (close_both (Few if_full [] ⊥) (May if_full ⊥) Anywhere (inner if_full [] ⊥) (outer if_full [] ⊥) (ways ⊥) anywhere k TooManyMatches fits w tt (inl (λ k. refl)) (s, inl none)).1)
 
 replies_full : (k : Conn) (key : ℕ) (p : Packet) (fits : Bool) (w : Work) → Sound w.hub → full_closes w.did ≡ []
     → have_room (due key w.hub (server_gets p (end_of key w.hub.sessions)).happenings) w.hub ≡ false → (c : Option CloseReason) → Leaves k (replies k key (server_gets p) c fits w)
@@ -342,7 +246,9 @@ dispatch_full k p fits AwaitingConnect now w s none x e = absurd cc
 dispatch_full k p fits (ConnectedAs key terms last_activity) now w s none x e =
     let same : x.key ≡ key = cc in
     let short = subst (λ (key : ℕ). have_room (due key w.hub (server_gets p (end_of key w.hub.sessions)).happenings) w.hub ≡ false) same x.short in
-    replies_full k key p fits w s none short (server_gets p (end_of key w.hub.sessions)).close
+    cond_both (is_too_broad p w.hub) (close k TooManyMatches fits w) (on_passed_packet k key p fits w) (Leaves k)
+    (λ broad. broad_close k fits w s none)
+    (λ narrow. replies_full k key p fits w s none short (server_gets p (end_of key w.hub.sessions)).close)
 dispatch_full k p fits Closed now w s none x e = absurd cc
 
 takes_full : (k : Conn) (p : Packet) (g : Growth) (w : Work) → Sound w.hub → full_closes w.did ≡ [] → IsFull k p (touched_on k w) → Leaves k (takes k p g w)
@@ -354,7 +260,7 @@ takes_full k p g w s none x =
     (λ starved. own_close k reasons.Memory g.will_fits w s none)
 
 -- a closed connection ignores the bytes that follow
-lets_go : (limits : Bounds) (k : Conn) (b : List ℕ) (w w2 : Work) → Comes limits k b w w2 → stage_of k w.hub.connections ≡ Closed → w2 ≡ w
+pub lets_go : (limits : Bounds) (k : Conn) (b : List ℕ) (w w2 : Work) → Comes limits k b w w2 → stage_of k w.hub.connections ≡ Closed → w2 ≡ w
 lets_go limits k b w w2 (Arrives p first rest g v v2 on reads more) e = absurd (true≢false (sym on ∙ ap is_open e))
 lets_go limits k b w w2 (Waits c v on pending) e = absurd (true≢false (sym on ∙ ap is_open e))
 lets_go limits k b w w2 (Breaks c fault fits v on faulty) e = absurd (true≢false (sym on ∙ ap is_open e))
@@ -362,7 +268,7 @@ lets_go limits k b w w2 (Starves c fits v on some) e = absurd (true≢false (sym
 lets_go limits k b w w2 (LetsGo c v closed) e = refl
 
 -- the time of activity doesn't change the client of a connection
-key_touched : (now : ℕ) (s : ConnectionState) → key_on (touched now s) ≡ key_on s
+pub key_touched : (now : ℕ) (s : ConnectionState) → key_on (touched now s) ≡ key_on s
 key_touched now AwaitingConnect = refl
 key_touched now (ConnectedAs key terms last_activity) = refl
 key_touched now Closed = refl
@@ -403,10 +309,10 @@ module _ (store : StoreLaws) (log : List Act) (config : HubConfig) where
       → (full_closes w2.did ≡ []) ⊎ ((config.when_full ≡ ClosePublisher) × (full_closes w2.did ≡ k ∷ []) × ComesTooMuch log config limits k b w w2 c)
   few_comes limits k b w w2 (Arrives p first rest g v v2 on reads more) s told none =
       let X : Type 0 = IsFull k p (touched_on k v) in
-      let t = takes_both (Few [] X) (May [] X) Anywhere (inner [] X) (outer [] X) (ways [] X) anywhere k p g v tt tt
-      (λ key up state short. inr (record { key = key; up = up; state = state; short = short })) (s, inl none) in
-      let a = takes_both (routing.Tells store log) Freely Anywhere (routing.inner store log) (routing.outer store log) freely anywhere k p g v tt tt (λ key up state short. tt) (s, told.0) in
-      let same = takes_both (reading.Same config) Freely Anywhere (reading.same_inner config) (reading.same_outer config) freely anywhere k p g v tt tt (λ key up state short. tt) (s, told.1) in
+      let t = takes_both (Few if_full [] X) (May if_full X) Anywhere (inner if_full [] X) (outer if_full [] X) (ways X) anywhere k p g v tt tt
+      ((λ key up state short. inr (record { key = key; up = up; state = state; short = short })), (λ key up broad. inl (λ k. refl))) (s, inl none) in
+      let a = takes_both (routing.Tells store log) Freely Anywhere (routing.inner store log) (routing.outer store log) freely anywhere k p g v tt tt ((λ key up state short. tt), (λ key up broad. tt)) (s, told.0) in
+      let same = takes_both (reading.Same config) Freely Anywhere (reading.same_inner config) (reading.same_outer config) freely anywhere k p g v tt tt ((λ key up state short. tt), (λ key up broad. tt)) (s, told.1) in
       go t.1 (λ none. few_comes limits k rest (takes k p g v) v2 more t.0 (a.1, same.1) none)
     where
       now : Work
@@ -431,9 +337,9 @@ module _ (store : StoreLaws) (log : List Act) (config : HubConfig) where
       go (inr x) ih = here x (takes_full k p g v s none x) ih
   few_comes limits k b w w2 (Waits c v on pending) s told none = inl none
   few_comes limits k b w w2 (Breaks c fault fits v on faulty) s told none =
-      inl (only (breaks_both (Few [] ⊥) (May [] ⊥) Anywhere (inner [] ⊥) (outer [] ⊥) (ways [] ⊥) anywhere k fault fits v tt tt (s, inl none)).1)
+      inl (only (breaks_both (Few if_full [] ⊥) (May if_full ⊥) Anywhere (inner if_full [] ⊥) (outer if_full [] ⊥) (ways ⊥) anywhere k fault fits v tt tt (s, inl none)).1)
   few_comes limits k b w w2 (Starves c fits v on some) s told none =
-      inl (only (close_both (Few [] ⊥) (May [] ⊥) Anywhere (inner [] ⊥) (outer [] ⊥) (ways [] ⊥) anywhere k (Own reasons.Memory) fits v tt (inl (λ k. refl)) (s, inl none)).1)
+      inl (only (close_both (Few if_full [] ⊥) (May if_full ⊥) Anywhere (inner if_full [] ⊥) (outer if_full [] ⊥) (ways ⊥) anywhere k (Own reasons.Memory) fits v tt (inl (λ k. refl)) (s, inl none)).1)
   few_comes limits k b w w2 (LetsGo c v closed) s told none = inl none
 
 module _ (store : StoreLaws) (log : List Act) where
@@ -444,9 +350,9 @@ module _ (store : StoreLaws) (log : List Act) where
       few_comes store log h.config h.config.limits k (held_on k h.connections ++ piece) (holding k [] (begin h)) w d.0 start.0 (start.1, refl) refl
   few_event h (Ended k) r w d s a =
       inl (ap (λ (w : Work). full_closes w.did) d.1
-      ∙ only (ended_both (Few [] ⊥) (May [] ⊥) Anywhere (inner [] ⊥) (outer [] ⊥) (ways [] ⊥) anywhere k (is_open (stage_of k h.connections)) d.0 (begin h) tt (s, inl refl)).1)
+      ∙ only (ended_both (Few if_full [] ⊥) (May if_full ⊥) Anywhere (inner if_full [] ⊥) (outer if_full [] ⊥) (ways ⊥) anywhere k (is_open (stage_of k h.connections)) d.0 (begin h) tt (s, inl refl)).1)
   few_event h (Tick now) r w d s a =
-      inl (only (tick_both (Few [] ⊥) (May [] ⊥) Anywhere (inner [] ⊥) (outer [] ⊥) (ways [] ⊥) anywhere (λ fits w. tt) (inl (λ k. refl)) (told now h) w d.0 (s, inl refl)).1)
+      inl (only (tick_both (Few if_full [] ⊥) (May if_full ⊥) Anywhere (inner if_full [] ⊥) (outer if_full [] ⊥) (ways ⊥) anywhere (λ fits w. tt) (inl (λ k. refl)) (told now h) w d.0 (s, inl refl)).1)
   few_event h (Collect k) r w d s a = inl (ap (λ (w : Work). full_closes w.did) d.0)
 
 -- under DropCopy no event is too much

@@ -14,6 +14,7 @@ mod Missing
 mod Routing
 mod Taking
 mod Rows
+mod Closings
 mod Filling
 mod Losing
 mod Books
@@ -23,6 +24,7 @@ mod Names
 mod Logging
 mod Reading
 mod Silence
+mod Broad
 mod Clients
 mod PendingOutput
 mod Bounds

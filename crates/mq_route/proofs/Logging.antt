@@ -21,7 +21,7 @@ use Rattle.mq_route.specs.declared.act.Act.{Act}
 use Rattle.mq_route.specs.declared.act.Act.TheVariants as acts
 use Rattle.mq_route.specs.declared.conn.Conn.{Conn}
 use Rattle.mq_route.specs.declared.close.HubClose.{HubClose}
-use Rattle.mq_route.specs.declared.close.HubClose.TheVariants.{Own, TargetFull, TakenOver, PeerEnded}
+use Rattle.mq_route.specs.declared.close.HubClose.TheVariants.{Own, TargetFull, TakenOver, PeerEnded, TooManyMatches}
 use Rattle.mq_route.specs.declared.event.HubEvent.{HubEvent}
 use Rattle.mq_route.specs.declared.event.HubEvent.TheVariants.{Opened, Bytes, Ended, Tick, Collect}
 use Rattle.mq_route.specs.declared.reply.HubReply.{HubReply}
@@ -31,7 +31,7 @@ use Rattle.mq_route.specs.Copies.{will_message, kept}
 use Rattle.mq_route.specs.Hub.{HubState, HubConnection, stage_of, is_open, key_on, held_on, up_on, key_of, end_of, with_end, copies_of}
 use Rattle.mq_route.specs.Welcome.{client_of, ends_with, refusal}
 use Rattle.mq_route.specs.Work.{Work, begin, said, with_sessions, staged, shut, put_on, put_where, does, publishes_next, is_missed, place, place_all, have_room, deliver, remove, last_will, will_after, remove_if, leaves_behind, shut_down, close, subscribed, unsubscribed, retained_copies}
-use Rattle.mq_route.specs.Arrives.{Growth, granted, due, answers, answers_all, replies, greeting, terms_of, resume_session, new_session, start_session, take_over, goes_on, accept_connect, on_connect, on_first_packet, dispatch_packet, touched_on, arrives, noted, takes, closes_by, broken, on_malformed}
+use Rattle.mq_route.specs.Arrives.{Growth, granted, due, answers, answers_all, replies, greeting, terms_of, resume_session, new_session, start_session, take_over, goes_on, accept_connect, on_connect, on_first_packet, on_passed_packet, is_too_broad, dispatch_packet, touched_on, arrives, noted, takes, closes_by, broken, on_malformed}
 use Rattle.mq_route.specs.Step.{holding, Comes, Arrives, Waits, Breaks, Starves, LetsGo, Ticks, Done, InTime, Late, Does, ended_open, expired_keys, remove_all, expire, told}
 use Rattle.mq_route.specs.Reading.{logged_in, logged_by}
 
@@ -157,7 +157,9 @@ first_logs k p fits w = close_logs k (Own reasons.Unexpected) fits w
 dispatch_logs : (k : Conn) (p : Packet) (fits : Bool) (s : ConnectionState) (w : Work) → (dispatch_packet k p fits s w).came ≡ w.came
 unfolding dispatch_packet
 dispatch_logs k p fits AwaitingConnect w = first_logs k p fits w
-dispatch_logs k p fits (ConnectedAs key terms last_activity) w = replies_log k key (server_gets p) (server_gets p (end_of key w.hub.sessions)).close fits w
+dispatch_logs k p fits (ConnectedAs key terms last_activity) w =
+    cond_both (is_too_broad p w.hub) (close k TooManyMatches fits w) (on_passed_packet k key p fits w) (λ v. v.came ≡ w.came)
+    (λ broad. close_logs k TooManyMatches fits w) (λ narrow. replies_log k key (server_gets p) (server_gets p (end_of key w.hub.sessions)).close fits w)
 dispatch_logs k p fits Closed w = refl
 
 arrives_log : (k : Conn) (p : Packet) (g : Growth) (w : Work) → (arrives k p g w).came ≡ w.came

@@ -273,8 +273,8 @@ few_comes : (config : HubConfig) (limits : Bounds) (k : Conn) (b : List ℕ) (w 
     → (is_in c (dropped w.did) ≡ true) ⊎ ComesLosing config.when_full c limits k b w w2 comes
 few_comes config limits k b w w2 (Arrives p first rest g v v2 on reads more) s is c i =
     let f = g.will_fits in
-    let t = takes_both (Few config f v is) Freely (IsNear f v) (inner config f v is) (outer config f v is) freely (nearby f v) k p g v tt (at_itself f v) (λ key up state short. tt) (s, λ c i. inl i) in
-    let same = takes_both (reading.Same config) Freely Anywhere (reading.same_inner config) (reading.same_outer config) freely anywhere k p g v tt tt (λ key up state short. tt) (s, is) in
+    let t = takes_both (Few config f v is) Freely (IsNear f v) (inner config f v is) (outer config f v is) freely (nearby f v) k p g v tt (at_itself f v) ((λ key up state short. tt), (λ key up broad. tt)) (s, λ c i. inl i) in
+    let same = takes_both (reading.Same config) Freely Anywhere (reading.same_inner config) (reading.same_outer config) freely anywhere k p g v tt tt ((λ key up state short. tt), (λ key up broad. tt)) (s, is) in
     go (t.1 c) (few_comes config limits k rest (takes k p g v) v2 more t.0 same.1 c i)
   where
     Loses : Type 0

@@ -158,7 +158,7 @@ module _ (config : HubConfig) (keep : drops_copies config.when_full ≡ false) (
   calm_event h (Opened k) r w d s same = subst (Calm nothing) (sym d.0) (same, λ c. refl)
   calm_event h (Bytes k piece) r w d s same =
       let start = holding_both Calm Freely Anywhere inner outer freely anywhere k [] (begin h) (λ r. r) (s, (same, λ c. refl)) in
-      (comes_both Calm Freely Anywhere inner outer freely anywhere (λ fits w. tt) tt h.config.limits k tt (λ b v r. r) (held_on k h.connections ++ piece) (holding k [] (begin h)) w d.0 start).1
+      (comes_both Calm Freely Anywhere inner outer freely anywhere (λ fits w. tt) (tt, tt) h.config.limits k tt (λ b v r. r) (held_on k h.connections ++ piece) (holding k [] (begin h)) w d.0 start).1
   calm_event h (Ended k) r w d s same =
       let end = ended_both Calm Freely Anywhere inner outer freely anywhere k (is_open (stage_of k h.connections)) d.0 (begin h) tt (s, (same, λ c. refl)) in
       subst (Calm nothing) (sym d.1) (end.1.0, end.1.1)

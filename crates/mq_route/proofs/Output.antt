@@ -238,7 +238,7 @@ leaves n h (Opened k) r w right d stays s known =
 leaves n h (Bytes k piece) r w right d stays s known =
     let base = waiting_on n h.connections in
     let start = holding_both (Grows n base) Freely Anywhere (inner n base) (outer n base) freely anywhere k [] (begin h) (λ r. holds_grows n base k [] (begin h) r) (s, begins_at n h known) in
-    let end = comes_both (Grows n base) Freely Anywhere (inner n base) (outer n base) freely anywhere (λ fits w. tt) tt h.config.limits k tt (holds_grows n base k) (held_on k h.connections ++ piece) (holding k [] (begin h)) w d.0 start in
+    let end = comes_both (Grows n base) Freely Anywhere (inner n base) (outer n base) freely anywhere (λ fits w. tt) (tt, tt) h.config.limits k tt (holds_grows n base k) (held_on k h.connections ++ piece) (holding k [] (begin h)) w d.0 start in
     grew n h (Bytes k piece) r w refl end.0 end.1
 leaves n h (Ended k) r w right d stays s known =
     let base = waiting_on n h.connections in
@@ -260,7 +260,7 @@ leaves n h (Collect k) r w right d stays s known =
 -- a run keeps the invariants of sessions and connections
 pub sound_event : (h : HubState) (e : HubEvent) (r : HubReply) (w : Work) → event_refusal e h ≡ None → Does h e r w → Sound h → Sound w.hub
 sound_event h (Opened k) r w right d s = subst (λ (w : Work). Sound w.hub) (sym d.0) (sound_opened k h (not_known k h right) s)
-sound_event h (Bytes k piece) r w right d s = (comes_both Any Freely Anywhere any_inner any_outer freely anywhere (λ fits w. tt) tt h.config.limits k tt (λ b v r. tt) (held_on k h.connections ++ piece) (holding k [] (begin h)) w d.0 (holding_both Any Freely Anywhere any_inner any_outer freely anywhere k [] (begin h) (λ r. tt) (s, tt))).0
+sound_event h (Bytes k piece) r w right d s = (comes_both Any Freely Anywhere any_inner any_outer freely anywhere (λ fits w. tt) (tt, tt) h.config.limits k tt (λ b v r. tt) (held_on k h.connections ++ piece) (holding k [] (begin h)) w d.0 (holding_both Any Freely Anywhere any_inner any_outer freely anywhere k [] (begin h) (λ r. tt) (s, tt))).0
 sound_event h (Ended k) r w right d s =
     let v = ended_open k (is_open (stage_of k h.connections)) d.0 (begin h) in
     subst (λ (w : Work). Sound w.hub) (sym d.1) (sound_without k v (ended_idle k d.0 (begin h)) (ended_both Any Freely Anywhere any_inner any_outer freely anywhere k (is_open (stage_of k h.connections)) d.0 (begin h) tt (s, tt)).0)

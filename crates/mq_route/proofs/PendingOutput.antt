@@ -271,7 +271,7 @@ module _ (n : Conn) (most base : ℕ) (low : most ≤ base) where
       })
   event h (Bytes k piece) r w d stays s b =
       let start = holding_both Bounds Freely Anywhere inner outer freely anywhere k [] (begin h) (λ r. holds k [] (begin h) r) (s, b) in
-      (comes_both Bounds Freely Anywhere inner outer freely anywhere (λ fits w. tt) tt h.config.limits k tt (holds k) (held_on k h.connections ++ piece) (holding k [] (begin h)) w d.0 start).1
+      (comes_both Bounds Freely Anywhere inner outer freely anywhere (λ fits w. tt) (tt, tt) h.config.limits k tt (holds k) (held_on k h.connections ++ piece) (holding k [] (begin h)) w d.0 start).1
   event h (Ended k) r w d stays s b =
       let end = (ended_both Bounds Freely Anywhere inner outer freely anywhere k (is_open (stage_of k h.connections)) d.0 (begin h) tt (s, b)).1 in
       let v = ended_open k (is_open (stage_of k h.connections)) d.0 (begin h) in

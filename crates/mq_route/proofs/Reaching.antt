@@ -211,7 +211,7 @@ module _ (n : Conn) (h : HubState) where
   event (Opened k) r w d s other none = ap (λ (w : Work). waiting_on n w.hub.connections) d.0 ∙ opens k h.clock h.connections other
   event (Bytes k piece) r w d s other none =
       let start = holding_both Quiet Freely Anywhere inner outer freely anywhere k [] (begin h) (λ r. holds k [] (begin h) r) (s, starts s) in
-      (comes_both Quiet Freely Anywhere inner outer freely anywhere (λ fits w. tt) tt h.config.limits k other (holds k) (held_on k h.connections ++ piece) (holding k [] (begin h)) w d.0 start).1.1 none
+      (comes_both Quiet Freely Anywhere inner outer freely anywhere (λ fits w. tt) (tt, tt) h.config.limits k other (holds k) (held_on k h.connections ++ piece) (holding k [] (begin h)) w d.0 start).1.1 none
   event (Ended k) r w d s other none =
       let v = ended_open k (is_open (stage_of k h.connections)) d.0 (begin h) in
       let end = ended_both Quiet Freely Anywhere inner outer freely anywhere k (is_open (stage_of k h.connections)) d.0 (begin h) tt (s, starts s) in

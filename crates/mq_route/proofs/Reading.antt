@@ -94,7 +94,7 @@ pub same_event : (h : HubState) (e : HubEvent) (r : HubReply) (w : Work) → Doe
 same_event h (Opened k) r w d s = ap (λ (w : Work). w.hub.config) d.0
 same_event h (Bytes k piece) r w d s =
     let c = h.config in
-    (comes_both (Same c) Freely Anywhere (same_inner c) (same_outer c) freely anywhere (λ fits w. tt) tt h.config.limits k tt (λ b v r. r) (held_on k h.connections ++ piece) (holding k [] (begin h)) w d.0
+    (comes_both (Same c) Freely Anywhere (same_inner c) (same_outer c) freely anywhere (λ fits w. tt) (tt, tt) h.config.limits k tt (λ b v r. r) (held_on k h.connections ++ piece) (holding k [] (begin h)) w d.0
     (holding_both (Same c) Freely Anywhere (same_inner c) (same_outer c) freely anywhere k [] (begin h) (λ r. r) (s, refl))).1
 same_event h (Ended k) r w d s =
     let c = h.config in
@@ -316,7 +316,7 @@ reads_event n h (Bytes k piece) r w right d stays s known = go (same_conn k n) r
         let b = held_on n h.connections in
         let holds : (c : List ℕ) (v : Work) → Still n A b nothing v → Still n A b nothing (holding k c v) = λ c v r. other_still n A b k (λ x. record x { held = c }) (λ x. refl) apart v r in
         let start = holding_both (Still n A b) Freely Anywhere (still_inner n A b) (still_outer n A b) freely anywhere k [] (begin h) (holds [] (begin h)) (s, begins_still n h) in
-        let end = comes_both (Still n A b) Freely Anywhere (still_inner n A b) (still_outer n A b) freely anywhere (λ fits w. tt) tt h.config.limits k tt holds (held_on k h.connections ++ piece) (holding k [] (begin h)) w d.0 start in
+        let end = comes_both (Still n A b) Freely Anywhere (still_inner n A b) (still_outer n A b) freely anywhere (λ fits w. tt) (tt, tt) h.config.limits k tt holds (held_on k h.connections ++ piece) (holding k [] (begin h)) w d.0 start in
         subst (λ (t : Bool). ReadsIn n h.config.limits (cond t packets []) (held_on n h.connections ++ cond t piece []) h w.hub) (sym apart) (quiet n h.config.limits h w end.1)
 reads_event n h (Ended k) r w right d stays s known =
     let A : Type 0 = is_open (stage_of n h.connections) ≡ true in

@@ -367,7 +367,7 @@ module _ (store : StoreLaws) where
       (subst (λ (w : Work). Agrees (log ++ w.did) w.hub []) (sym d.0) (looks [] (log ++ []) h (opened k h) [] (lines_as [] h (opened k h).connections same) (starts log h a)))
   tells_event log h (Bytes k piece) r w right d s a =
       let start = holding_both (Tells log) Freely Anywhere (inner log) (outer log) freely anywhere k [] (begin h) (λ t. holds_tells log k [] (begin h) t) (s, starts log h a) in
-      let end = comes_both (Tells log) Freely Anywhere (inner log) (outer log) freely anywhere (λ fits w. tt) tt h.config.limits k tt (holds_tells log k) (held_on k h.connections ++ piece) (holding k [] (begin h)) w d.0 start in
+      let end = comes_both (Tells log) Freely Anywhere (inner log) (outer log) freely anywhere (λ fits w. tt) (tt, tt) h.config.limits k tt (holds_tells log k) (held_on k h.connections ++ piece) (holding k [] (begin h)) w d.0 start in
       acted log h r w (acts_in _ _ d.1) end.1
   tells_event log h (Ended k) r w right d s a =
       let v = ended_open k (is_open (stage_of k h.connections)) d.0 (begin h) in

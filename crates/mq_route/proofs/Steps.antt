@@ -20,7 +20,7 @@ use Rattle.mq_end.specs.Server.{opens, server_gets}
 use Rattle.mq_route.specs.declared.act.Act.TheVariants as acts
 use Rattle.mq_route.specs.declared.conn.Conn.{Conn}
 use Rattle.mq_route.specs.declared.close.HubClose.{HubClose}
-use Rattle.mq_route.specs.declared.close.HubClose.TheVariants.{Own, TargetFull, TakenOver, PeerEnded, NoConnect}
+use Rattle.mq_route.specs.declared.close.HubClose.TheVariants.{Own, TargetFull, TakenOver, PeerEnded, NoConnect, TooManyMatches}
 use Rattle.mq_route.specs.declared.connection_state.ConnectionState.{ConnectionState}
 use Rattle.mq_route.specs.declared.connection_state.ConnectionState.TheVariants.{AwaitingConnect, ConnectedAs, Closed}
 use Rattle.mq_route.specs.declared.connection_state.ConnectionTerms.{ConnectionTerms}
@@ -28,7 +28,7 @@ use Rattle.mq_route.specs.Routed.{same_conn}
 use Rattle.mq_route.specs.Hub.{HubState, HubSession, HubConnection, new_end, no_end, stage_of, with_connection, is_open, key_on, is_clean, is_for, up_on, end_of, end_on, key_of}
 use Rattle.mq_route.specs.Welcome.{client_of, refusal, refusal_by_tables, is_unavailable, ends_on}
 use Rattle.mq_route.specs.Work.{Work, begin, said, with_connections, staged, shut, put_on, does, have_room, remove, will_after, leaves_behind, shut_down, close}
-use Rattle.mq_route.specs.Arrives.{Growth, due, answers, answers_all, replies, greeting, terms_of, resume_session, new_session, start_session, take_over, goes_on, accept_connect, on_connect, on_first_packet, dispatch_packet, touched, touched_on, arrives, noted, takes, closes_by, broken, on_malformed}
+use Rattle.mq_route.specs.Arrives.{Growth, due, answers, answers_all, replies, greeting, terms_of, resume_session, new_session, start_session, take_over, goes_on, accept_connect, on_connect, on_first_packet, on_passed_packet, is_too_broad, dispatch_packet, touched, touched_on, arrives, noted, takes, closes_by, broken, on_malformed}
 use Rattle.mq_route.specs.Step.{holding, Comes, Arrives, Waits, Breaks, Starves, LetsGo, Ticks, Done, InTime, Late, has_passed, late_reason, is_expired, expired_keys, remove_all, expire, ended_open}
 use Rattle.mq_route.proofs.Lines.{one_conn, upper, up_is, upper_none, conn_in, Mild, stage_here, fresh_known}
 use Rattle.mq_route.proofs.Uppers.{IsIdle, unless, upper_at, upper_stage}
@@ -77,10 +77,12 @@ accepted c h none = go (eqb (length c.client_id) 0) c.clean_session none
     go false false e = refl
     go true false e = absurd cc
 
--- a packet on a connected connection may close it if a session has no room
+-- a packet on a connected connection may close it if a session has no room, or if it is a SUBSCRIBE
+-- that is too broad
 abbrev pub Fills : (HubClose → Type 0) → Conn → Packet → Work → Type 0
-Fills May k p w = (key : ℕ) → key_on (stage_of k w.hub.connections) ≡ Some key → (end_of key w.hub.sessions).state ≡ Connected
-    → have_room (due key w.hub (server_gets p (end_of key w.hub.sessions)).happenings) w.hub ≡ false → May TargetFull
+Fills May k p w = ((key : ℕ) → key_on (stage_of k w.hub.connections) ≡ Some key → (end_of key w.hub.sessions).state ≡ Connected
+    → have_room (due key w.hub (server_gets p (end_of key w.hub.sessions)).happenings) w.hub ≡ false → May TargetFull)
+    × ((key : ℕ) → key_on (stage_of k w.hub.connections) ≡ Some key → is_too_broad p w.hub ≡ true → May TooManyMatches)
 
 module _ {IsOwn : Conn → Type 0} (R : Debt → Work → Type 0) (May : HubClose → Type 0) (Near : Bool → Work → Type 0) (inner : Inner IsOwn R) (outer : Outer IsOwn R May Near) (ways : Ways May) (nearby : Nearby Near) where
   abbrev pub Both : Debt → Work → Type 0
@@ -258,8 +260,10 @@ module _ {IsOwn : Conn → Type 0} (R : Debt → Work → Type 0) (May : HubClos
   unfolding dispatch_packet
   comes_in_both now k p fits AwaitingConnect w own near full e h = at_first_both k p fits w own near e h
   comes_in_both now k p fits (ConnectedAs key terms last_activity) w own near full e h =
-      after_replies k key terms now p fits w own near e h
-      (full key (ap key_on e) (is_tied key (k, terms.clean_session) w.hub h.0 (upper_at k key terms now w.hub.connections h.0.apart e)).1) (server_gets p (end_of key w.hub.sessions)).close refl
+      cond_both (is_too_broad p w.hub) (close k TooManyMatches fits w) (on_passed_packet k key p fits w) (After (Some key) k p)
+      (λ broad. after_closed (Some key) k p TooManyMatches fits w near (full.1 key (ap key_on e) broad) h)
+      (λ narrow. after_replies k key terms now p fits w own near e h
+      (full.0 key (ap key_on e) (is_tied key (k, terms.clean_session) w.hub h.0 (upper_at k key terms now w.hub.connections h.0.apart e)).1) (server_gets p (end_of key w.hub.sessions)).close refl)
   comes_in_both now k p fits Closed w own near full e h = h
 
   arrives_both : (k : Conn) (p : Packet) (g : Growth) (w : Work) → IsOwn k → Near g.will_fits w → Fills May k p (touched_on k w) → Both nothing w → After (key_on (stage_of k w.hub.connections)) k p (arrives k p g w)
@@ -291,8 +295,8 @@ module _ {IsOwn : Conn → Type 0} (R : Debt → Work → Type 0) (May : HubClos
 
   -- ---- bytes, ticks, and the end of a connection
 
-  pub comes_both : ((fits : Bool) (w : Work) → Near fits w) → May TargetFull → (limits : Bounds) (k : Conn) → IsOwn k → ((b : List ℕ) (v : Work) → R nothing v → R nothing (holding k b v)) → (b : List ℕ) (w w2 : Work) → Comes limits k b w w2 → Both nothing w → Both nothing w2
-  comes_both near full limits k own holds b w w2 (Arrives p first rest g v v2 on reads more) h = comes_both near full limits k own holds rest (takes k p g v) v2 more (takes_both k p g v own (near g.will_fits v) (λ key up state short. full) h)
+  pub comes_both : ((fits : Bool) (w : Work) → Near fits w) → May TargetFull × May TooManyMatches → (limits : Bounds) (k : Conn) → IsOwn k → ((b : List ℕ) (v : Work) → R nothing v → R nothing (holding k b v)) → (b : List ℕ) (w w2 : Work) → Comes limits k b w w2 → Both nothing w → Both nothing w2
+  comes_both near full limits k own holds b w w2 (Arrives p first rest g v v2 on reads more) h = comes_both near full limits k own holds rest (takes k p g v) v2 more (takes_both k p g v own (near g.will_fits v) ((λ key up state short. full.0), (λ key up broad. full.1)) h)
   comes_both near full limits k own holds b w w2 (Waits c v on pending) h = (sound_holding k c v h.0, holds c v h.1)
   comes_both near full limits k own holds b w w2 (Breaks c fault fits v on faulty) h = breaks_both k fault fits v own (near fits v) h
   comes_both near full limits k own holds b w w2 (Starves c fits v on some) h = close_both k (Own reasons.Memory) fits v (near fits v) (ways.own reasons.Memory) h

@@ -311,7 +311,7 @@ hands_event log before h (Opened k) r w right d s a =
 hands_event log before h (Bytes k piece) r w right d s a =
     let R = Hands log before in
     let start = holding_both R Freely Anywhere (inner log before) (outer log before) freely anywhere k [] (begin h) (λ r. r) (s, starts log before h a) in
-    let end = comes_both R Freely Anywhere (inner log before) (outer log before) freely anywhere (λ fits w. tt) tt h.config.limits k tt (λ b v r. r) (held_on k h.connections ++ piece) (holding k [] (begin h)) w d.0 start in
+    let end = comes_both R Freely Anywhere (inner log before) (outer log before) freely anywhere (λ fits w. tt) (tt, tt) h.config.limits k tt (λ b v r. r) (held_on k h.connections ++ piece) (holding k [] (begin h)) w d.0 start in
     ends log before r w (acts_in _ _ d.1) end.1
 hands_event log before h (Ended k) r w right d s a =
     let end = ended_both (Hands log before) Freely Anywhere (inner log before) (outer log before) freely anywhere k (is_open (stage_of k h.connections)) d.0 (begin h) tt (s, starts log before h a) in

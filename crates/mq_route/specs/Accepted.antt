@@ -22,7 +22,7 @@ use Rattle.mq_end.specs.Server.{server_gets, subacks}
 use Rattle.mq_route.specs.declared.act.Act.{Act}
 use Rattle.mq_route.specs.declared.act.Act.TheVariants as acts
 use Rattle.mq_route.specs.declared.close.HubClose.{HubClose}
-use Rattle.mq_route.specs.declared.close.HubClose.TheVariants.{Own, TargetFull, TakenOver, PeerEnded}
+use Rattle.mq_route.specs.declared.close.HubClose.TheVariants.{Own, TargetFull, TakenOver, PeerEnded, TooManyMatches}
 use Rattle.mq_route.specs.declared.config.HubConfig.{HubConfig}
 use Rattle.mq_route.specs.declared.config.WhenFull.TheVariants.{ClosePublisher}
 use Rattle.mq_route.specs.declared.conn.Conn.{Conn}
@@ -36,7 +36,7 @@ use Rattle.mq_route.specs.Routed.{marked}
 use Rattle.mq_route.specs.Hub.{HubState, HubConnection, new_hub, stage_of, is_open, held_on, up_on, key_of, end_of, copies_of}
 use Rattle.mq_route.specs.Welcome.{client_of, refusal}
 use Rattle.mq_route.specs.Work.{Work, begin, said, put_on, does, leaves, is_missed, place, have_room, will_after, close, subscribed, retained_copies}
-use Rattle.mq_route.specs.Arrives.{Growth, granted, due, answers, touched_on, takes, broken}
+use Rattle.mq_route.specs.Arrives.{Growth, granted, due, is_too_broad, answers, touched_on, takes, broken}
 use Rattle.mq_route.specs.Step.{holding, Comes, Arrives, Waits, Breaks, Starves, LetsGo, Ticks, Done, InTime, Late, Does, event_refusal, expire, told}
 use Rattle.mq_route.specs.Runs.{Episode, Follows}
 use Rattle.mq_route.specs.Dropped.{when_over}
@@ -160,7 +160,8 @@ in_first conn packet fits work = in_close conn (Own reasons.Unexpected) fits wor
 abbrev pub in_packet : Conn → Packet → Bool → ConnectionState → Work → List Placing
 in_packet conn packet fits AwaitingConnect work = in_first conn packet fits work
 in_packet conn packet fits (ConnectedAs key terms last_activity) work =
-    in_replies conn key (server_gets packet) (server_gets packet (end_of key work.hub.sessions)).close fits work
+    if is_too_broad packet work.hub then in_close conn TooManyMatches fits work
+    else in_replies conn key (server_gets packet) (server_gets packet (end_of key work.hub.sessions)).close fits work
 in_packet conn packet fits Closed work = []
 
 -- a packet, with memory for it or without

@@ -1,5 +1,5 @@
 -- A packet arrives on a connection (3.1 to 3.14).
-use Rattle.std.specs.Prelude.{ℕ, ◌+◌, Bool, true, false, List, [], ◌∷◌, ◌++◌, map, Option, Some, None, if◌then◌else◌}
+use Rattle.std.specs.Prelude.{ℕ, ◌+◌, ◌*◌, Bool, true, false, not, List, [], ◌∷◌, ◌++◌, length, map, Option, Some, None, if◌then◌else◌}
 use Rattle.std.specs.List.{flat_map}
 use Rattle.mq_packet.specs.declared.connack.ConnAck.TheVariants as connacks
 use Rattle.mq_packet.specs.declared.connack.RefusalCode.{RefusalCode}
@@ -20,13 +20,13 @@ use Rattle.mq_end.specs.Server.{server_gets, opens, subacks, unsubacks}
 use Rattle.mq_end.specs.State.{server_faulted}
 use Rattle.mq_route.specs.declared.conn.Conn.{Conn}
 use Rattle.mq_route.specs.declared.act.Act.TheVariants as acts
-use Rattle.mq_route.specs.declared.close.HubClose.TheVariants.{Own, TargetFull, TakenOver}
+use Rattle.mq_route.specs.declared.close.HubClose.TheVariants.{Own, TargetFull, TakenOver, TooManyMatches}
 use Rattle.mq_route.specs.declared.connection_state.ConnectionState.{ConnectionState}
 use Rattle.mq_route.specs.declared.connection_state.ConnectionTerms.{ConnectionTerms}
 use Rattle.mq_route.specs.declared.connection_state.ConnectionState.TheVariants.{AwaitingConnect, ConnectedAs, Closed}
 use Rattle.mq_route.specs.Hub.{HubState, new_end, with_connection, stage_of, up_on, is_open, key_on, key_of, end_of, end_on, copies_of}
 use Rattle.mq_route.specs.Welcome.{client_of, ends_with, refusal}
-use Rattle.mq_route.specs.Work.{Work, said, with_connections, staged, put_on, does, place_all, have_room, deliver, remove, close, subscribed, unsubscribed, retained_copies}
+use Rattle.mq_route.specs.Work.{Work, said, with_connections, staged, put_on, does, leaves, place_all, have_room, deliver, remove, close, subscribed, unsubscribed, retained_copies}
 
 -- Whether allocations succeed for a packet, and for the will that it publishes. A packet publishes
 -- at most one will: that of its own connection if it closes, or that of the connection that it
@@ -83,9 +83,21 @@ replies conn key move None fits work =
     then answers_all conn key (move (end_of key work.hub.sessions)).happenings (does key move work)
     else close conn TargetFull fits work
 
+-- a packet is passed to the client's end
+abbrev pub on_passed_packet : Conn → ℕ → Packet → Bool → Work → Work
+on_passed_packet conn key packet fits work =
+    replies conn key (server_gets packet) (server_gets packet (end_of key work.hub.sessions)).close fits work
+
+-- a SUBSCRIBE has too many filters for the number of retained messages (3.8.4)
+abbrev pub is_too_broad : Packet → HubState → Bool
+is_too_broad (packets.Subscribe i requests) hub = not (leaves hub.config.most_matches 0 (length requests * length hub.retained))
+is_too_broad packet hub = false
+
+-- a SUBSCRIBE that is too broad does nothing but close its connection
 abbrev pub on_connected_packet : Conn → ℕ → Packet → Bool → Work → Work
 on_connected_packet conn key packet fits work =
-    replies conn key (server_gets packet) (server_gets packet (end_of key work.hub.sessions)).close fits work
+    if is_too_broad packet work.hub then close conn TooManyMatches fits work
+    else on_passed_packet conn key packet fits work
 
 -- ---- CONNECT
 

@@ -2,7 +2,7 @@
 use Rattle.std.specs.Prelude.{ℕ, List, codes}
 use Rattle.mq_end.specs.Codes.{close_code}
 use Rattle.mq_route.specs.declared.close.HubClose.{HubClose}
-use Rattle.mq_route.specs.declared.close.HubClose.TheVariants.{Own, TargetFull, TakenOver, PeerEnded, NoConnect}
+use Rattle.mq_route.specs.declared.close.HubClose.TheVariants.{Own, TargetFull, TakenOver, PeerEnded, NoConnect, TooManyMatches}
 use Rattle.mq_route.specs.declared.refusal.HubRefusal.{HubRefusal}
 use Rattle.mq_route.specs.declared.refusal.HubRefusal.TheVariants as refusals
 
@@ -13,6 +13,7 @@ hub_close_code TargetFull = codes "C8"
 hub_close_code TakenOver = codes "C9"
 hub_close_code PeerEnded = codes "C10"
 hub_close_code NoConnect = codes "C12"
+hub_close_code TooManyMatches = codes "C13"
 
 abbrev pub hub_refusal_code : HubRefusal → List ℕ
 hub_refusal_code refusals.UnknownConn = codes "U1"

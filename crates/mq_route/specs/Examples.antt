@@ -32,7 +32,7 @@ abbrev pub conn : ℕ → Conn
 conn n = record { worker = 0; nth = n }
 
 abbrev pub config : HubConfig
-config = record { limits = strict 1000; capacity = 10; window = None; max_conns = 10; max_sessions = 10; users = None; hashed_users = None; when_full = ClosePublisher; connect_within = None; session_expiry = None; most_stored = None; most_waiting = None }
+config = record { limits = strict 1000; capacity = 10; window = None; max_conns = 10; max_sessions = 10; users = None; hashed_users = None; when_full = ClosePublisher; connect_within = None; session_expiry = None; most_stored = None; most_waiting = None; most_matches = None }
 
 -- a CONNECT
 abbrev pub hello : List ℕ → Bool → Option Will → Packet
@@ -109,6 +109,7 @@ tight = record {
   session_expiry = None;
   most_stored = None;
   most_waiting = None;
+  most_matches = None;
 }
 
 abbrev pub user : List ℕ → Option Will → List ℕ → Packet

@@ -15,7 +15,7 @@ use Rattle.mq_end.specs.Server.{server_gets}
 use Rattle.mq_route.specs.declared.act.Act.{Act}
 use Rattle.mq_route.specs.declared.act.Act.TheVariants as acts
 use Rattle.mq_route.specs.declared.close.HubClose.{HubClose}
-use Rattle.mq_route.specs.declared.close.HubClose.TheVariants.{Own, TargetFull, TakenOver, PeerEnded, NoConnect}
+use Rattle.mq_route.specs.declared.close.HubClose.TheVariants.{Own, TargetFull, TakenOver, PeerEnded, NoConnect, TooManyMatches}
 use Rattle.mq_route.specs.declared.config.HubConfig.{HubConfig}
 use Rattle.mq_route.specs.declared.config.WhenFull.TheVariants.{ClosePublisher, DropCopy}
 use Rattle.mq_route.specs.declared.conn.Conn.{Conn}
@@ -23,6 +23,7 @@ use Rattle.mq_route.specs.declared.event.HubEvent.{HubEvent}
 use Rattle.mq_route.specs.declared.event.HubEvent.TheVariants.{Opened, Bytes, Ended, Tick, Collect}
 use Rattle.mq_route.specs.declared.reply.HubReply.{HubReply}
 use Rattle.mq_route.specs.Routed.{seen, routed_from}
+use Rattle.mq_route.specs.Closes.{closes_for}
 use Rattle.mq_route.specs.Hub.{HubState, HubSession, new_hub, stage_of, held_on, key_on, end_of}
 use Rattle.mq_route.specs.Work.{Work, begin, leaves}
 use Rattle.mq_route.specs.Arrives.{Growth, takes}
@@ -36,22 +37,11 @@ if_full (Own reason) k = []
 if_full TakenOver k = []
 if_full PeerEnded k = []
 if_full NoConnect k = []
-
-unfoldable pub full_by : Act → List Conn
-full_by (acts.Closed k why) = if_full why k
-full_by (acts.Up k c present) = []
-full_by (acts.Took c m) = []
-full_by (acts.Placed c m) = []
-full_by (acts.Missed c m) = []
-full_by (acts.Subscribed c f q) = []
-full_by (acts.Unsubscribed c f) = []
-full_by (acts.Will c m) = []
-full_by (acts.WillDropped c) = []
-full_by (acts.Removed c) = []
+if_full TooManyMatches k = []
 
 -- the connections that close because a session is full
 abbrev pub full_closes : List Act → List Conn
-full_closes log = flat_map full_by log
+full_closes log = closes_for if_full log
 
 abbrev pub IsPublishOrSubscribe : Packet → Type 0
 IsPublishOrSubscribe (packets.Publish p) = Unit {0}

@@ -10,6 +10,7 @@ pub mod Runs
 pub mod Taken
 pub mod Laws
 pub mod Examples
+pub mod Closes
 pub mod Full
 pub mod Dropped
 pub mod Accepted
@@ -18,6 +19,7 @@ pub mod Names
 pub mod Reading
 pub mod StepSome
 pub mod Silent
+pub mod Broad
 pub mod Clients
 pub mod Bounds
 pub mod Expired

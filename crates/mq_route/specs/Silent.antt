@@ -1,10 +1,8 @@
 -- A connection that sends no CONNECT in time is closed by a tick (3.1).
 use Rattle.std.specs.Prelude.{◌≡◌, ℕ, ◌&&◌, Bool, true, false, List, [], ◌∷◌, map, filter, max, Option, None}
-use Rattle.std.specs.List.{flat_map}
 use Rattle.mq_route.specs.declared.act.Act.{Act}
-use Rattle.mq_route.specs.declared.act.Act.TheVariants as acts
 use Rattle.mq_route.specs.declared.close.HubClose.{HubClose}
-use Rattle.mq_route.specs.declared.close.HubClose.TheVariants.{Own, TargetFull, TakenOver, PeerEnded, NoConnect}
+use Rattle.mq_route.specs.declared.close.HubClose.TheVariants.{Own, TargetFull, TakenOver, PeerEnded, NoConnect, TooManyMatches}
 use Rattle.mq_route.specs.declared.config.HubConfig.{HubConfig}
 use Rattle.mq_route.specs.declared.conn.Conn.{Conn}
 use Rattle.mq_route.specs.declared.event.HubEvent.{HubEvent}
@@ -12,6 +10,7 @@ use Rattle.mq_route.specs.declared.event.HubEvent.TheVariants.{Opened, Bytes, En
 use Rattle.mq_route.specs.declared.reply.HubReply.{HubReply}
 use Rattle.mq_route.specs.declared.connection_state.ConnectionState.{ConnectionState}
 use Rattle.mq_route.specs.declared.connection_state.ConnectionState.TheVariants.{AwaitingConnect, ConnectedAs, Closed}
+use Rattle.mq_route.specs.Closes.{closes_for}
 use Rattle.mq_route.specs.Hub.{HubState, HubConnection, new_hub}
 use Rattle.mq_route.specs.Work.{Work}
 use Rattle.mq_route.specs.Step.{has_passed, Does, event_refusal}
@@ -24,22 +23,11 @@ if_silent (Own reason) conn = []
 if_silent TargetFull conn = []
 if_silent TakenOver conn = []
 if_silent PeerEnded conn = []
-
-unfoldable pub silent_by : Act → List Conn
-silent_by (acts.Closed conn why) = if_silent why conn
-silent_by (acts.Up conn client present) = []
-silent_by (acts.Took client message) = []
-silent_by (acts.Placed client message) = []
-silent_by (acts.Missed client message) = []
-silent_by (acts.Subscribed client topic_filter qos) = []
-silent_by (acts.Unsubscribed client topic_filter) = []
-silent_by (acts.Will client message) = []
-silent_by (acts.WillDropped client) = []
-silent_by (acts.Removed client) = []
+if_silent TooManyMatches conn = []
 
 -- the connections that close because no CONNECT arrived in time
 abbrev pub silent_closes : List Act → List Conn
-silent_closes log = flat_map silent_by log
+silent_closes log = closes_for if_silent log
 
 abbrev pub awaits_connect : ConnectionState → Bool
 awaits_connect AwaitingConnect = true

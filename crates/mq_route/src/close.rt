@@ -26,10 +26,14 @@ pub enum HubClose {
     /// No CONNECT arrived within [`HubConfig::connect_within`](crate::HubConfig).
     #[error("no CONNECT arrived in time")]
     NoConnect,
+    /// A SUBSCRIBE has more filters than [`HubConfig::most_matches`](crate::HubConfig) allows for
+    /// the number of retained messages (3.8.4).
+    #[error("a SUBSCRIBE asks for too many retained messages")]
+    TooManyMatches,
 }
 
 impl HubClose {
-    /// Returns the code, `C1` to `C12`.
+    /// Returns the code, `C1` to `C13`.
     pub fn code(self) -> &'static str
         ensures { result.now ≡ hub_close_code self }
     {
@@ -39,6 +43,7 @@ impl HubClose {
             HubClose::TakenOver => "C9",
             HubClose::PeerEnded => "C10",
             HubClose::NoConnect => "C12",
+            HubClose::TooManyMatches => "C13",
         }
     }
 }

@@ -71,4 +71,9 @@ pub struct HubConfig {
     /// The maximum number of pending output bytes of one connection with a copy of QoS 0; `None`
     /// for no limit. The client misses a copy that exceeds it. Other packets are always queued.
     pub most_waiting: Option<u64>,
+    /// The maximum number of comparisons of filters with retained messages for one SUBSCRIBE: the
+    /// number of its filters times that of retained messages (3.8.4); `None` for no limit. A
+    /// SUBSCRIBE that exceeds it closes its connection and has no other effect. So it also limits
+    /// the retained messages that one SUBSCRIBE is sent.
+    pub most_matches: Option<u64>,
 }

@@ -1,6 +1,7 @@
 //! Laws of every run of a broker.
 
 ghost use Rattle.mq_route.specs.Accepted.{AcceptLaws};
+ghost use Rattle.mq_route.specs.Broad.{BroadLaws};
 ghost use Rattle.mq_route.specs.Clients.{ClientLaws};
 ghost use Rattle.mq_route.specs.Dropped.{WillLaws};
 ghost use Rattle.mq_route.specs.Examples.{Examples};
@@ -86,6 +87,13 @@ pub fn accept_laws()
 /// it.
 pub fn silent_laws()
     ensures { SilentLaws }
+{}
+
+/// A connection closes because a SUBSCRIBE is too broad only at its own SUBSCRIBE whose filters,
+/// times the retained messages, exceed [`HubConfig::most_matches`](crate::HubConfig) (3.8.4). So a
+/// SUBSCRIBE is sent at most that many retained messages.
+pub fn broad_laws()
+    ensures { BroadLaws }
 {}
 
 /// A tick removes the sessions whose clients are away for longer than

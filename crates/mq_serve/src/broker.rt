@@ -35,6 +35,7 @@ pub fn broker_config() -> HubConfig
       session_expiry = None;
       most_stored = None;
       most_waiting = None;
+      most_matches = None;
     } }
 {
     HubConfig {
@@ -50,5 +51,6 @@ pub fn broker_config() -> HubConfig
         session_expiry: None,
         most_stored: None,
         most_waiting: None,
+        most_matches: None,
     }
 }

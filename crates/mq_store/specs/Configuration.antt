@@ -74,6 +74,7 @@ bound_bytes config =
     ++ option_bytes config.session_expiry
     ++ option_bytes config.most_stored
     ++ option_bytes config.most_waiting
+    ++ option_bytes config.most_matches
 
 -- the configuration
 abbrev pub config_bytes : HubConfig → List ℕ

@@ -1,6 +1,7 @@
 -- A broker that is restored from the files of its journal.
-use Rattle.std.specs.Prelude.{◌≡◌, ℕ, List, [], length}
+use Rattle.std.specs.Prelude.{◌≡◌, ◌≤◌, ◌-◌, ◌⊎◌, ℕ, List, [], drop, length, take}
 use Rattle.std.specs.List.{flat_map}
+use Rattle.mq_log.specs.Blocks.{rest}
 use Rattle.mq_durable.specs.declared.condition.Condition.TheVariants.{Sound}
 use Rattle.mq_durable.specs.Recorded.{events_of}
 use Rattle.mq_durable.specs.Recovering.{AreEnds, latest}
@@ -15,6 +16,15 @@ use Rattle.mq_route.specs.Hub.{HubState}
 -- the events of files, in order
 abbrev pub events_of_all : List (List ℕ) → List HubEvent
 events_of_all files = flat_map events_of files
+
+-- the number of bytes of a file up to the end of its last entry
+abbrev pub IsEndOf : ℕ → List ℕ → Type 0
+IsEndOf end file = (end ≤ length file) × (drop end file ≡ rest file)
+
+-- The ends that a folder has are those of all its files, or of all but the last. Each has eight
+-- bytes.
+abbrev pub IsNoted : (known ends : List ℕ) → Type 0
+IsNoted known ends = (known ≡ ends) ⊎ (known ≡ take (length ends - 8) ends)
 
 -- Exactly the events of some files came to a broker, and this is their number.
 pub record IsRestored (old new : HubState) (count : ℕ) : Type 0 where

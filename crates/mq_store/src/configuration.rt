@@ -1,7 +1,8 @@
 //! The configuration of a broker as bytes.
 
-ghost use Rattle.std.specs.Prelude.{◌≡◌, ◌≢◌, ◌++◌, OnOk, IfErr, IfOk};
+ghost use Rattle.std.specs.Prelude.{◌≡◌, ◌≢◌, ◌++◌, ◌<◌, ◌≤◌, Err, drop, length, take, OnOk, IfErr, IfOk};
 ghost use Rattle.mq_store.specs.Configuration.{bool_number, bound_bytes, config_bytes, hashed_bytes, hashed_table, hashed_users_bytes, limit_bytes, number_bytes, option_bytes, packet_bytes, text_bytes, user_bytes, user_table, users_bytes, when_full_number};
+ghost use Rattle.mq_store.specs.Restoring.{IsNoted};
 ghost use Rattle.mq_store.specs.declared.fault.StoreError.TheVariants as errors;
 ghost use Rattle.sha2.specs.Sha256.{sha256};
 
@@ -12,9 +13,9 @@ use mq_route::{HashedUser, HubConfig, User, WhenFull};
 use sha2::{Digest, Sha256};
 use std::alloc::{AllocError, Global};
 
-// Appends a number, in eight bytes.
+/// Appends a number, in eight bytes.
 #[tactic(auto, unfolding(crate::specs::Configuration::number_bytes))]
-fn put_number(out: &mut Vec<u8>, number: u64) -> Result<(), AllocError>
+pub(crate) fn put_number(out: &mut Vec<u8>, number: u64) -> Result<(), AllocError>
     ensures { OnOk result (out.new.items ≡ out.old.items ++ number_bytes number) }
 {
     out.extend_from_slice(&number.to_be_bytes())?;
@@ -160,7 +161,8 @@ fn put_bounds(out: &mut Vec<u8>, config: &HubConfig) -> Result<(), AllocError>
     put_option(out, config.connect_within)?;
     put_option(out, config.session_expiry)?;
     put_option(out, config.most_stored)?;
-    put_option(out, config.most_waiting)
+    put_option(out, config.most_waiting)?;
+    put_option(out, config.most_matches)
 }
 
 // The fields of a configuration that decide the steps of a broker.
@@ -193,5 +195,33 @@ pub(crate) fn check_digest(known: &[u8], digest: &[u8]) -> Result<(), StoreError
         Ok(())
     } else {
         Err(StoreError::Configuration)
+    }
+}
+
+/// Splits what a folder has about its journal into the digest of the configuration and the ends of
+/// the files.
+pub(crate) fn split_owner(known: &[u8]) -> (&[u8], &[u8])
+    ensures digest { result.0.now ≡ take 32 known.now }
+    ensures ends { result.1.now ≡ drop 32 known.now }
+{
+    known.split_at(known.len().min(32))
+}
+
+/// Checks the ends that a folder has against those of its files. A crash may leave the folder
+/// without the end of the last file.
+pub(crate) fn check_ends(known: &[u8], ends: &[u8]) -> Result<(), StoreError>
+    ensures same { OnOk result (IsNoted known.now ends.now) }
+    ensures other { IfErr result (λ error. IsNoted known.now ends.now → ⊥) }
+    ensures damaged { result ≡ Err errors.Damaged → length known.now ≤ length ends.now }
+    ensures gap { result ≡ Err errors.Gap → length ends.now < length known.now }
+{
+    let before = &ends[..ends.len().saturating_sub(8)];
+    if known == ends || known == before {
+        return Ok(());
+    }
+    if known.len() > ends.len() {
+        Err(StoreError::Gap)
+    } else {
+        Err(StoreError::Damaged)
     }
 }

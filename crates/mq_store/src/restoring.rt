@@ -1,13 +1,15 @@
 //! Restoring a broker from the files of its journal.
 
-ghost use Rattle.std.specs.Prelude.{◌≡◌, ◌+◌, [], length, IfOk};
+ghost use Rattle.std.specs.Prelude.{◌≡◌, ◌+◌, ◌++◌, ℕ, [], length, IfOk};
 ghost use Rattle.mq_log.specs.Blocks.{entries};
 ghost use Rattle.mq_log.specs.Disk.{LeavesOnly, Only};
 ghost use Rattle.mq_durable.specs.Recorded.{events_in, events_in_all, events_of};
 ghost use Rattle.mq_durable.specs.Recovering.{latest};
 ghost use Rattle.mq_durable.specs.Replaying.{Replays};
-ghost use Rattle.mq_store.specs.Restoring.{IsResumed};
+ghost use Rattle.mq_store.specs.Configuration.{number_bytes};
+ghost use Rattle.mq_store.specs.Restoring.{IsEndOf, IsResumed};
 
+use crate::configuration::put_number;
 use crate::fault::StoreError;
 use mq_durable::{Durable, Recovery};
 use mq_log::{Disk, Journal, begin, read_journal};
@@ -20,6 +22,8 @@ pub(crate) struct Replayed {
     pub(crate) recovery: Recovery,
     /// The number of events.
     pub(crate) events: u64,
+    /// The end of each file: the number of bytes up to the end of its last entry, in eight bytes.
+    pub(crate) ends: Vec<u8>,
 }
 
 // The number of events of an entry.
@@ -49,12 +53,14 @@ fn count_all(alloc: Global, before: u64, entries: &[Vec<u8>]) -> Result<u64, Sto
     Ok(count)
 }
 
-// The number of events of a file, added to a number.
-fn count_events(alloc: Global, before: u64, file: &[u8]) -> Result<u64, StoreError>
-    ensures { IfOk result (λ count. count ≡ before + length (events_of file.now)) }
+// The number of events of a file, added to a number, and the end of its last entry.
+fn count_events(alloc: Global, before: u64, file: &[u8]) -> Result<(u64, usize), StoreError>
+    ensures events { IfOk result (λ found. found.0 ≡ before + length (events_of file.now)) }
+    ensures end { IfOk result (λ found. IsEndOf found.1 file.now) }
 {
     let contents = read_journal(alloc, file)?;
-    count_all(alloc, before, contents.entries.as_slice())
+    let events = count_all(alloc, before, contents.entries.as_slice())?;
+    Ok((events, contents.end))
 }
 
 impl Replayed {
@@ -65,11 +71,22 @@ impl Replayed {
         ensures broker { IfOk result (λ new. Replays self.recovery (events_of file.now) new.recovery) }
         ensures clock { IfOk result (λ new. new.recovery.clock ≡ latest self.recovery.clock (events_of file.now)) }
         ensures events { IfOk result (λ new. new.events ≡ self.events + length (events_of file.now)) }
+        ensures ends { IfOk result (λ new. (end : ℕ) × IsEndOf end file.now
+            × (new.ends.items ≡ self.ends.items ++ number_bytes end)) }
     {
-        let Replayed { recovery, events } = self;
-        let events = count_events(alloc, events, file)?;
+        let Replayed {
+            recovery,
+            events,
+            mut ends,
+        } = self;
+        let (events, end) = count_events(alloc, events, file)?;
+        put_number(&mut ends, end as u64)?;
         let recovery = recovery.replay(file)?;
-        Ok(Replayed { recovery, events })
+        Ok(Replayed {
+            recovery,
+            events,
+            ends,
+        })
     }
 }
 

@@ -4,7 +4,7 @@ ghost use Rattle.std.specs.Prelude.{◌<◌, IfOk, IfSome};
 ghost use Rattle.mq_route.specs.Hub.{new_hub};
 ghost use Rattle.mq_store.specs.Restoring.{IsOpened, IsRestored};
 
-use crate::configuration::{check_digest, digest_of};
+use crate::configuration::{check_digest, check_ends, digest_of, split_owner};
 use crate::fault::StoreError;
 use crate::restoring::{Replayed, resume};
 use mq_durable::{Durable, Recovery};
@@ -33,50 +33,69 @@ fn file_name(alloc: Global, path: &str, nth: u64) -> Result<String, AllocError> 
     format!(in alloc; "{path}/journal.{nth}")
 }
 
-// Checks that the folder has this digest of a configuration.
-fn check_owner<R: Files<File = File>>(
+// Returns what the folder has about its journal: the digest of the configuration, and the end of
+// each file. Empty if it has nothing.
+fn read_owner<R: Files<File = File>>(
     rt: &R,
     alloc: Global,
     path: &str,
-    digest: &[u8],
-) -> Result<(), StoreError> {
+) -> Result<Vec<u8>, StoreError> {
     let name = format!(in alloc; "{path}/configuration")?;
     match read_file(rt, alloc, name.as_str())? {
-        Some(known) => check_digest(known.as_slice(), digest),
-        None => Err(StoreError::Configuration),
+        Some(known) => Ok(known),
+        None => Ok(Vec::new(alloc)),
     }
 }
 
-// Writes this digest of a configuration to the folder.
+// Replaces what the folder has about its journal.
 fn set_owner<R: Files<File = File>>(
     rt: &R,
     alloc: Global,
     folder: &Folder,
     path: &str,
-    digest: &[u8],
+    owner: &[u8],
 ) -> Result<(), StoreError> {
     let name = format!(in alloc; "{path}/configuration")?;
     let next = format!(in alloc; "{path}/configuration.next")?;
-    folder.replace_file(rt, next.as_str(), name.as_str(), digest)?;
+    folder.replace_file(rt, next.as_str(), name.as_str(), owner)?;
     Ok(())
 }
 
-// Checks that the folder belongs to a configuration. A folder without a journal belongs to it from
-// now on.
+// Checks that the folder belongs to a configuration, and returns what it has about its journal. A
+// folder without a journal belongs to the configuration from now on.
 fn claim<R: Files<File = File>>(
     rt: &R,
     alloc: Global,
     folder: &Folder,
     path: &str,
     config: &HubConfig,
-) -> Result<(), StoreError> {
+) -> Result<Vec<u8>, StoreError> {
     let digest = digest_of(alloc, config)?;
+    let known = read_owner(rt, alloc, path)?;
     let first = file_name(alloc, path, 1)?;
-    if has_file(rt, first.as_str())? {
-        check_owner(rt, alloc, path, &digest)
-    } else {
-        set_owner(rt, alloc, folder, path, &digest)
+    if known.len() <= digest.len() && !has_file(rt, first.as_str())? {
+        set_owner(rt, alloc, folder, path, &digest)?;
+        return Ok(digest.to_vec(alloc)?);
     }
+    check_digest(split_owner(known.as_slice()).0, &digest)?;
+    Ok(known)
+}
+
+// Checks the ends that the folder has against those of its files, and replaces them. A file whose
+// end the folder has must still end there, since no entry is added to it.
+fn note_ends<R: Files<File = File>>(
+    rt: &R,
+    alloc: Global,
+    folder: &Folder,
+    path: &str,
+    known: &[u8],
+    ends: &[u8],
+) -> Result<(), StoreError> {
+    let (digest, known_ends) = split_owner(known);
+    check_ends(known_ends, ends)?;
+    let mut owner = digest.to_vec(alloc)?;
+    owner.extend_from_slice(ends)?;
+    set_owner(rt, alloc, folder, path, owner.as_slice())
 }
 
 // Restores the broker from the files of the folder. Returns it with the number of the next file.
@@ -93,6 +112,7 @@ fn replay_all<R: Files<File = File>>(
     let mut replayed = Replayed {
         recovery: Recovery::new(alloc, Hub::new(alloc, config)),
         events: 0,
+        ends: Vec::new(alloc),
     };
     for nth in 1..u64::MAX {
         let name = file_name(alloc, path, nth)?;
@@ -108,7 +128,8 @@ fn replay_all<R: Files<File = File>>(
 ///
 /// The files `journal.1`, `journal.2` and so on have the events, in order. Each start begins a new
 /// file. The file `configuration` has the digest of the configuration, since the events lead to
-/// another broker under another one.
+/// another broker under another one, and the end of each file but the last. A start checks these
+/// ends, so that no damage goes unnoticed between the entries of two files.
 pub fn open_store<R: Files<File = File>>(
     rt: &R,
     alloc: Global,
@@ -122,17 +143,22 @@ pub fn open_store<R: Files<File = File>>(
         IsOpened (new_hub config) store.durable store.events store.clock) }
 {
     let folder = Folder::open(rt, alloc, path)?;
-    claim(rt, alloc, &folder, path, &config)?;
+    let known = claim(rt, alloc, &folder, path, &config)?;
     let (replayed, nth) = replay_all(rt, alloc, path, config)?;
     let behind = file_name(alloc, path, nth.saturating_add(1))?;
     if has_file(rt, behind.as_str())? {
         return Err(StoreError::Gap);
     }
+    let Replayed {
+        recovery,
+        events,
+        ends,
+    } = replayed;
+    note_ends(rt, alloc, &folder, path, known.as_slice(), ends.as_slice())?;
     let name = file_name(alloc, path, nth)?;
     let Ok(disk) = JournalFile::create(rt, name.as_str(), keep) else {
         return Err(StoreError::Unwritten);
     };
-    let Replayed { recovery, events } = replayed;
     let clock = recovery.clock();
     let durable = resume(recovery, disk)?;
     folder.sync()?;

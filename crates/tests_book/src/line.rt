@@ -69,5 +69,6 @@ pub(crate) fn config() -> Result<HubConfig, Fail>
         session_expiry: None,
         most_stored: None,
         most_waiting: None,
+        most_matches: None,
     })
 }

@@ -65,6 +65,7 @@ fn config() -> Result<HubConfig, Fail>
         session_expiry: None,
         most_stored: None,
         most_waiting: None,
+        most_matches: None,
     })
 }
 

@@ -40,6 +40,8 @@ pub(crate) struct Kind {
     pub(crate) most_stored: Option<u64>,
     /// The number of bytes of pending output with a copy of QoS 0.
     pub(crate) most_waiting: Option<u64>,
+    /// The number of filters of a SUBSCRIBE times retained messages.
+    pub(crate) most_matches: Option<u64>,
 }
 
 pub(crate) const WIDE: Kind = Kind {
@@ -53,6 +55,7 @@ pub(crate) const WIDE: Kind = Kind {
     session_expiry: None,
     most_stored: None,
     most_waiting: None,
+    most_matches: None,
 };
 
 const DROPPING: Kind = Kind {
@@ -65,7 +68,7 @@ const DROPPING: Kind = Kind {
 pub(crate) type Table = (&'static str, Kind, &'static [Row]);
 
 /// All tables of rows.
-pub(crate) const TABLES: [Table; 35] = [
+pub(crate) const TABLES: [Table; 36] = [
     ("refused", WIDE, &rows::REFUSED),
     ("routed", WIDE, &rows::ROUTED),
     ("level", WIDE, &rows::LEVEL),
@@ -152,6 +155,14 @@ pub(crate) const TABLES: [Table; 35] = [
             ..WIDE
         },
         &limits::RETAINED_WAITING,
+    ),
+    (
+        "matches",
+        Kind {
+            most_matches: Some(2),
+            ..WIDE
+        },
+        &limits::MATCHES,
     ),
     (
         "crowded",
@@ -253,6 +264,7 @@ pub(crate) fn config(alloc: Global, kind: Kind) -> Result<HubConfig, Fail>
         session_expiry: kind.session_expiry,
         most_stored: kind.most_stored,
         most_waiting: kind.most_waiting,
+        most_matches: kind.most_matches,
     })
 }
 

@@ -176,3 +176,27 @@ pub(crate) const RETAINED_WAITING: [Row; 10] = [
         "set k1 # 1, placed k1 a 0r 31, placed k1 b 0r 32, placed k1 c 0r 33, missed k1 d 0r 34, placed k1 e 1r 35",
     ),
 ];
+
+/// The filters of a SUBSCRIBE times the retained messages are at most two. One more closes the
+/// connection, and nothing is stored.
+pub(crate) const MATCHES: [Row; 10] = [
+    (Happens::Opens(2), ""),
+    (Happens::Sends(2, PUBLISHER), "up 2 k0 new"),
+    (Happens::Sends(2, "310400016131"), "took k0 a 0r 31"),
+    (Happens::Opens(1), ""),
+    (Happens::Sends(1, KEEPING), "up 1 k1 new"),
+    (
+        Happens::Sends(1, "820a00010001230000016100"),
+        "set k1 # 0, set k1 a 0, placed k1 a 0r 31, placed k1 a 0r 31",
+    ),
+    (
+        Happens::Sends(2, "310400016232"),
+        "took k0 b 0r 32, placed k1 b 0 32",
+    ),
+    (Happens::Sends(1, "8206000200016300"), "set k1 c 0"),
+    (
+        Happens::Sends(1, "820a00030001240000016200"),
+        "closed 1 C13.",
+    ),
+    (Happens::Sends(2, "310400016333"), "took k0 c 0r 33"),
+];

@@ -85,6 +85,7 @@ fn new_loop<'a>(alloc: Global, commits: u32, early: &'a Cell<u32>) -> Result<Loo
         session_expiry: None,
         most_stored: None,
         most_waiting: None,
+        most_matches: None,
     };
     let limits = LoopLimits {
         share: 4_096,

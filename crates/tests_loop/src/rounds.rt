@@ -28,6 +28,7 @@ fn new_loop<'a>(alloc: Global, most_owed: usize) -> Result<Loop<'a>, Fail> {
         session_expiry: None,
         most_stored: None,
         most_waiting: None,
+        most_matches: None,
     };
     let limits = LoopLimits {
         share: 4_096,

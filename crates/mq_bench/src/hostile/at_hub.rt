@@ -62,6 +62,7 @@ fn new_hub(alloc: Global, limits: Limits) -> Hub {
         session_expiry: None,
         most_stored: None,
         most_waiting: None,
+        most_matches: None,
     };
     Hub::new(alloc, config)
 }

@@ -4,7 +4,7 @@ ghost use Rattle.std.specs.Prelude.{◌≡◌, ℕ, List, [], Bool, true, None, 
 ghost use Rattle.mq_end.specs.Server.{server_gets};
 ghost use Rattle.mq_route.specs.declared.act.Act.{Act};
 ghost use Rattle.mq_route.specs.declared.conn.Conn.{Conn};
-ghost use Rattle.mq_route.specs.Arrives.{on_connected_packet};
+ghost use Rattle.mq_route.specs.Arrives.{on_passed_packet};
 ghost use Rattle.mq_route.specs.Hub.{end_of, up_on};
 ghost use Rattle.mq_hub.specs.Inside.Requests.{AreAlike, Answers};
 ghost use Rattle.mq_hub.specs.Inside.Calls.{CanServe};
@@ -42,7 +42,7 @@ impl<S: FilterStore> HubOver<S> {
         requires stays { (server_gets packet (end_of key self.old.sessions)).close ≡ None }
         requires silent { (server_gets packet (end_of key self.old.sessions)).happenings ≡ [] }
         ensures goes { OnOk result ((conn : Conn) (fits : Bool) (said : List Act)
-            → Refines (on_connected_packet conn key packet fits) self.old said self.new said) }
+            → Refines (on_passed_packet conn key packet fits) self.old said self.new said) }
         ensures err { OnErr result (self.new ≡ self.old) }
     {
         let now = self.clock;

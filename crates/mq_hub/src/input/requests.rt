@@ -1,12 +1,13 @@
 //! Handles the packets of a connected client other than PUBLISH and UNSUBSCRIBE (3.3 to 3.14, 4.8).
 
-ghost use Rattle.std.specs.Prelude.{◌≡◌, ℕ, ◌≤◌, ◌+◌, [], Bool, true, None, is_some, OnOk, OnErr, IfSome, IfNone};
+ghost use Rattle.std.specs.Prelude.{◌≡◌, ℕ, ◌≤◌, ◌+◌, ◌*◌, [], Bool, true, not, length, None, is_some, OnOk, OnErr, IfSome, IfNone};
 ghost use Rattle.mq_packet.specs.declared.packet.Packet.TheVariants as packets;
 ghost use Rattle.mq_end.specs.End.{End, closes, is_up};
 ghost use Rattle.mq_end.specs.Server.{server_up_gets};
 ghost use Rattle.mq_end.specs.Sizes.{subscribe_size};
-ghost use Rattle.mq_route.specs.Arrives.{on_connected_packet};
+ghost use Rattle.mq_route.specs.Arrives.{on_connected_packet, on_passed_packet};
 ghost use Rattle.mq_route.specs.Hub.{end_of, is_open, stage_of, up_on};
+ghost use Rattle.mq_route.specs.Work.{leaves};
 ghost use Rattle.mq_hub.specs.Inside.Calls.{RequestsNothing};
 ghost use Rattle.mq_hub.specs.Inside.Refinement.{Refines};
 
@@ -36,10 +37,60 @@ fn closing_reason(packet: &Packet) -> Option<CloseReason>
     }
 }
 
+// Whether a product exceeds a limit.
+fn exceeds(most: Option<u64>, first: usize, second: usize) -> bool
+    ensures { result ≡ not (leaves most 0 (first * second)) }
+{
+    let Some(most) = most else {
+        return false;
+    };
+    match first.checked_mul(second) {
+        Some(product) => product as u64 > most,
+        None => true,
+    }
+}
+
 impl<S: FilterStore> HubOver<S> {
-    /// Handles a SUBSCRIBE (3.8.4). If the session has too few free identifiers for the retained
-    /// messages (2.3.1), the ones without room are missed, or the connection is closed, as the
-    /// configuration says.
+    // Whether a SUBSCRIBE with this number of filters is too broad (3.8.4).
+    fn is_too_broad(&self, filters: usize) -> bool
+        ensures { result ≡ not (leaves self.now.config.most_matches 0 (filters * length self.now.retained)) }
+    {
+        exceeds(
+            self.config.most_matches,
+            filters,
+            self.tables.retained.len(),
+        )
+    }
+
+    // Handles a SUBSCRIBE that is not too broad. If the session has too few free identifiers for the
+    // retained messages (2.3.1), the ones without room are missed, or the connection is closed, as
+    // the configuration says.
+    fn take_narrow(
+        &mut self,
+        conn: Conn,
+        key: ClientKey,
+        id: PacketId,
+        requests: NonEmpty<Request>,
+        log: &mut ActLog,
+    ) -> Result<(), AllocError>
+        requires up { is_some (up_on key self.old.connections) ≡ true }
+        requires within { subscribe_size requests ≤ self.old.config.limits.most }
+        requires room { 3 ≤ log.old.room }
+        ensures goes { OnOk result ((fits : Bool)
+            × Refines (on_passed_packet conn key (packets.Subscribe id requests) fits) self.old log.old.acts self.new log.new.acts) }
+        ensures room { OnOk result (is_open (stage_of conn self.new.connections) ≡ true → 3 ≤ log.new.room) }
+        ensures err { OnErr result (self.new ≡ self.old) }
+        ensures err_acts { OnErr result (log.new.acts ≡ log.old.acts) }
+        ensures err_room { OnErr result (3 ≤ log.new.room) }
+    {
+        if self.on_subscribe(key, id, requests, log)? {
+            return Ok(());
+        }
+        self.close(conn, HubClose::TargetFull, log);
+        Ok(())
+    }
+
+    /// Handles a SUBSCRIBE (3.8.4). One that is too broad closes its connection.
     pub(crate) fn take_subscribe(
         &mut self,
         conn: Conn,
@@ -58,11 +109,11 @@ impl<S: FilterStore> HubOver<S> {
         ensures err_acts { OnErr result (log.new.acts ≡ log.old.acts) }
         ensures err_room { OnErr result (3 ≤ log.new.room) }
     {
-        if self.on_subscribe(key, id, requests, log)? {
+        if self.is_too_broad(requests.as_slice().len()) {
+            self.close(conn, HubClose::TooManyMatches, log);
             return Ok(());
         }
-        self.close(conn, HubClose::TargetFull, log);
-        Ok(())
+        self.take_narrow(conn, key, id, requests, log)
     }
 
     /// Handles a packet other than PUBLISH, SUBSCRIBE and UNSUBSCRIBE (3.1, 3.14, 4.8).

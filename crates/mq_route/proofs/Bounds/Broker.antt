@@ -22,7 +22,7 @@ use Rattle.mq_end.specs.Server.{opens, server_gets, subacks, unsubacks}
 use Rattle.mq_route.specs.declared.act.Act.{Act}
 use Rattle.mq_route.specs.declared.act.Act.TheVariants as acts
 use Rattle.mq_route.specs.declared.close.HubClose.{HubClose}
-use Rattle.mq_route.specs.declared.close.HubClose.TheVariants.{Own, TargetFull, TakenOver}
+use Rattle.mq_route.specs.declared.close.HubClose.TheVariants.{Own, TargetFull, TakenOver, TooManyMatches}
 use Rattle.mq_route.specs.declared.conn.Conn.{Conn}
 use Rattle.mq_route.specs.declared.connection_state.ConnectionState.{ConnectionState}
 use Rattle.mq_route.specs.declared.connection_state.ConnectionState.TheVariants.{AwaitingConnect, ConnectedAs, Closed}
@@ -31,7 +31,7 @@ use Rattle.mq_route.specs.Copies.{kept, will_message}
 use Rattle.mq_route.specs.Hub.{HubConnection, is_connection, changed, with_connection, held_on, stage_of, up_on, end_of, with_end, copies_of, key_of}
 use Rattle.mq_route.specs.Welcome.{client_of, ends_with, refusal}
 use Rattle.mq_route.specs.Work.{Work, said, with_connections, with_sessions, staged, shut, put_on, put_where, does, publishes_next, is_missed, place, place_all, have_room, deliver, remove, last_will, will_after, remove_if, leaves_behind, shut_down, close, subscribed, unsubscribed, retained_copies}
-use Rattle.mq_route.specs.Arrives.{Growth, due, granted, answers, answers_all, replies, greeting, terms_of, resume_session, new_session, start_session, take_over, goes_on, accept_connect, on_connect, on_first_packet, dispatch_packet, touched, touched_on, arrives, takes}
+use Rattle.mq_route.specs.Arrives.{Growth, due, granted, answers, answers_all, replies, greeting, terms_of, resume_session, new_session, start_session, take_over, goes_on, accept_connect, on_connect, on_first_packet, on_passed_packet, is_too_broad, dispatch_packet, touched, touched_on, arrives, takes}
 use Rattle.mq_route.specs.Bounds.Broker.{is_answer, answers_in}
 use Rattle.mq_route.proofs.Bounds.Lengths.{connack_size}
 use Rattle.mq_route.proofs.Bounds.Packets.{connect_size}
@@ -301,7 +301,10 @@ module _ (k : Conn) where
   unfolding dispatch_packet
   comes_in_spends j p fits AwaitingConnect w = first_spends j p fits w
   comes_in_spends j p fits (ConnectedAs key terms last_activity) w =
-      replies_spends j key (2 + length (fields p)) (server_gets p) (server_gets p (end_of key w.hub.sessions)).close fits w (gets_cost p (end_of key w.hub.sessions))
+      let n = 2 + length (fields p) in
+      cond_both (is_too_broad p w.hub) (close j TooManyMatches fits w) (on_passed_packet j key p fits w) (Spends n w)
+      (λ broad. more 0 n w (close j TooManyMatches fits w) (omega arith) (close_spends j TooManyMatches fits w))
+      (λ narrow. replies_spends j key n (server_gets p) (server_gets p (end_of key w.hub.sessions)).close fits w (gets_cost p (end_of key w.hub.sessions)))
   comes_in_spends j p fits Closed w = more 0 (2 + length (fields p)) w w (omega arith) (still w)
 
   arrives_spends : (j : Conn) (p : Packet) (g : Growth) (w : Work) → Spends (2 + length (fields p)) w (arrives j p g w)

@@ -4,7 +4,7 @@ use Rattle.mq_end.specs.Sizes.{subscribe_size}
 use Rattle.mq_end.specs.declared.happening.Happening.TheVariants as happens
 use Rattle.mq_route.specs.declared.act.Act.{Act}
 use Rattle.mq_route.specs.declared.close.HubClose.TheVariants.{TargetFull}
-use Rattle.mq_route.specs.Arrives.{answers, on_connected_packet}
+use Rattle.mq_route.specs.Arrives.{answers, on_passed_packet}
 use Rattle.mq_route.specs.Hub.{HubState}
 use Rattle.mq_route.specs.Work.{close, have_room, retained_copies}
 use Rattle.mq_hub.specs.Inside.Refinement.{Refines}
@@ -71,8 +71,8 @@ returns-clause-takes g c = λ done conn fits.
     let d = c.subscribe.ensures.done done in
     let says = (c.args.log.now.acts ++ subscribed_acts key c.args.requests) ++ d.0 in
     let enough = ok_at (λ enough. (b : HubState) → HasSessions h.tables.sessions.list b → rules_of b.config ≡ c.rules_of-rules.result → have_room (retained_copies key c.args.requests h.tables.retained.messages) b ≡ enough) c.subscribe.result done c.subscribe.ensures.enough old (has_sessions h.config h.clock h.next_key h.tables c.self.invariant) (sym c.rules_of-rules.ensures) in
-    subst (λ (s : HubState). Refines (on_connected_packet conn key p fits) s c.args.log.now.acts (hub_of h.config h.clock h.next_key u) c.subscribe.new.log.acts) c.self.view_is
-    (subst (λ (did : List Act). Refines (on_connected_packet conn key p fits) old c.args.log.now.acts (hub_of h.config h.clock h.next_key u) did) (sym d.2)
+    subst (λ (s : HubState). Refines (on_passed_packet conn key p fits) s c.args.log.now.acts (hub_of h.config h.clock h.next_key u) c.subscribe.new.log.acts) c.self.view_is
+    (subst (λ (did : List Act). Refines (on_passed_packet conn key p fits) old c.args.log.now.acts (hub_of h.config h.clock h.next_key u) did) (sym d.2)
     (asked_goes h.config h.clock h.next_key key h.tables c.self.invariant on.conn on.is p (happens.Subscribe c.args.id c.args.requests) (λ e. refl) conn fits
     (hub_of h.config h.clock h.next_key u) c.args.log.now.acts says enough
     (subscribed_goes h.config h.next_key key h.tables u c.self.invariant on.conn on.is c.args.id c.args.requests c.rules_of-rules.result d.0 d.1 h.clock c.args.log.now.acts (sym c.rules_of-rules.ensures) conn)))
@@ -86,7 +86,7 @@ returns-clause-closed g c = λ full conn fits new says goes.
     let on = on_seen h.config h.clock h.next_key h.tables c.args.self.now key c.self.view_is c.requires.up in
     let enough = ok_at (λ enough. (b : HubState) → HasSessions h.tables.sessions.list b → rules_of b.config ≡ c.rules_of-rules.result → have_room (retained_copies key c.args.requests h.tables.retained.messages) b ≡ enough)
     c.subscribe.result full c.subscribe.ensures.enough old (has_sessions h.config h.clock h.next_key h.tables c.self.invariant) (sym c.rules_of-rules.ensures) in
-    subst (λ (s : HubState). Refines (on_connected_packet conn key p fits) s c.args.log.now.acts new says) c.self.view_is
+    subst (λ (s : HubState). Refines (on_passed_packet conn key p fits) s c.args.log.now.acts new says) c.self.view_is
     (unasked_goes h.config h.clock h.next_key key h.tables c.self.invariant on.conn on.is p (happens.Subscribe c.args.id c.args.requests) (λ e. refl) conn fits
     new c.args.log.now.acts says enough
     (subst (λ (s : HubState). Refines (close conn TargetFull fits) s c.args.log.now.acts new says) (sym c.self.view_is) goes))
