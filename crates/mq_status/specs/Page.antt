@@ -53,21 +53,22 @@ closed_text counts =
     (at counts (codes "malformed packet (C1)") 14 ∷ at counts (codes "unexpected packet (C2)") 15 ∷ at counts (codes "CONNECT refused (C3)") 16
     ∷ at counts (codes "session lost (C4)") 17 ∷ at counts (codes "keep-alive expired (C5)") 18 ∷ at counts (codes "out of memory (C6)") 19
     ∷ at counts (codes "client disconnected (C7)") 20 ∷ at counts (codes "session full (C8)") 21 ∷ at counts (codes "client connected again (C9)") 22
-    ∷ at counts (codes "connection ended by peer (C10)") 23 ∷ at counts (codes "receive window exceeded (C11)") 24 ∷ at counts (codes "no CONNECT in time (C12)") 25 ∷ [])
+    ∷ at counts (codes "connection ended by peer (C10)") 23 ∷ at counts (codes "receive window exceeded (C11)") 24 ∷ at counts (codes "no CONNECT in time (C12)") 25
+    ∷ at counts (codes "too many retained messages (C13)") 26 ∷ [])
 
 abbrev pub refused_text : List ℕ → List ℕ
 refused_text counts =
     list_text (codes "Refused")
-    (at counts (codes "unacceptable protocol version (1)") 26 ∷ at counts (codes "identifier rejected (2)") 27 ∷ at counts (codes "server unavailable (3)") 28
-    ∷ at counts (codes "bad user name or password (4)") 29 ∷ at counts (codes "not authorized (5)") 30 ∷ [])
+    (at counts (codes "unacceptable protocol version (1)") 27 ∷ at counts (codes "identifier rejected (2)") 28 ∷ at counts (codes "server unavailable (3)") 29
+    ∷ at counts (codes "bad user name or password (4)") 30 ∷ at counts (codes "not authorized (5)") 31 ∷ [])
 
 abbrev pub totals_text : List ℕ → List ℕ
 totals_text counts =
     list_text (codes "Total")
-    (at counts (codes "connects accepted") 31 ∷ at counts (codes "sessions ended") 32 ∷ at counts (codes "subscriptions stored") 33
-    ∷ at counts (codes "subscriptions removed") 34 ∷ at counts (codes "wills published") 35 ∷ at counts (codes "wills dropped") 36
-    ∷ at counts (codes "bytes read") 37 ∷ at counts (codes "bytes written") 38 ∷ at counts (codes "connections turned away") 39
-    ∷ at counts (codes "rounds") 40 ∷ at counts (codes "microseconds in rounds") 41 ∷ [])
+    (at counts (codes "connects accepted") 32 ∷ at counts (codes "sessions ended") 33 ∷ at counts (codes "subscriptions stored") 34
+    ∷ at counts (codes "subscriptions removed") 35 ∷ at counts (codes "wills published") 36 ∷ at counts (codes "wills dropped") 37
+    ∷ at counts (codes "bytes read") 38 ∷ at counts (codes "bytes written") 39 ∷ at counts (codes "connections turned away") 40
+    ∷ at counts (codes "rounds") 41 ∷ at counts (codes "microseconds in rounds") 42 ∷ [])
 
 -- ---- tables
 

@@ -232,6 +232,7 @@ fn write_closed<W: Write>(output: &mut W, counts: &[u64; COUNTERS]) -> io::Resul
         Item("connection ended by peer (C10)", counts[23]),
         Item("receive window exceeded (C11)", counts[24]),
         Item("no CONNECT in time (C12)", counts[25]),
+        Item("too many retained messages (C13)", counts[26]),
     ];
     write_list(output, "Closed", &items)
 }
@@ -242,11 +243,11 @@ fn write_refused<W: Write>(output: &mut W, counts: &[u64; COUNTERS]) -> io::Resu
         (refused_text counts.now)) }
 {
     let items = [
-        Item("unacceptable protocol version (1)", counts[26]),
-        Item("identifier rejected (2)", counts[27]),
-        Item("server unavailable (3)", counts[28]),
-        Item("bad user name or password (4)", counts[29]),
-        Item("not authorized (5)", counts[30]),
+        Item("unacceptable protocol version (1)", counts[27]),
+        Item("identifier rejected (2)", counts[28]),
+        Item("server unavailable (3)", counts[29]),
+        Item("bad user name or password (4)", counts[30]),
+        Item("not authorized (5)", counts[31]),
     ];
     write_list(output, "Refused", &items)
 }
@@ -257,17 +258,17 @@ fn write_totals<W: Write>(output: &mut W, counts: &[u64; COUNTERS]) -> io::Resul
         (totals_text counts.now)) }
 {
     let items = [
-        Item("connects accepted", counts[31]),
-        Item("sessions ended", counts[32]),
-        Item("subscriptions stored", counts[33]),
-        Item("subscriptions removed", counts[34]),
-        Item("wills published", counts[35]),
-        Item("wills dropped", counts[36]),
-        Item("bytes read", counts[37]),
-        Item("bytes written", counts[38]),
-        Item("connections turned away", counts[39]),
-        Item("rounds", counts[40]),
-        Item("microseconds in rounds", counts[41]),
+        Item("connects accepted", counts[32]),
+        Item("sessions ended", counts[33]),
+        Item("subscriptions stored", counts[34]),
+        Item("subscriptions removed", counts[35]),
+        Item("wills published", counts[36]),
+        Item("wills dropped", counts[37]),
+        Item("bytes read", counts[38]),
+        Item("bytes written", counts[39]),
+        Item("connections turned away", counts[40]),
+        Item("rounds", counts[41]),
+        Item("microseconds in rounds", counts[42]),
     ];
     write_list(output, "Total", &items)
 }
