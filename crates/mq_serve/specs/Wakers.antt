@@ -35,6 +35,10 @@ abbrev pub after_acts : ℕ → List Act → Seat → Seat
 after_acts number [] seat = seat
 after_acts number (act ∷ acts) seat = after_acts number acts (after_act number act seat)
 
+-- a worker that serves no client
+abbrev pub vacant : Seat
+vacant = record { client = None; is_called = false }
+
 -- the worker is not called
 abbrev pub uncalled : Seat → Seat
 uncalled seat = record seat { is_called = false }

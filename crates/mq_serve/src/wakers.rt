@@ -1,7 +1,7 @@
 //! Wakers of workers that are waiting at their connections.
 
-ghost use Rattle.std.specs.Prelude.{◌≡◌, ◌<◌, ℕ, IfOk, length, slice_index, vec_len};
-ghost use Rattle.mq_serve.specs.Wakers.{after_act, after_acts, call_if, must_wake, serves, uncalled};
+ghost use Rattle.std.specs.Prelude.{◌≡◌, ◌<◌, ℕ, IfOk, length, slice_index_or, vec_len};
+ghost use Rattle.mq_serve.specs.Wakers.{after_act, after_acts, call_if, must_wake, serves, uncalled, vacant};
 
 use crate::read_order::{ReadOrder, ReadSeat};
 use mio::Waker;
@@ -151,8 +151,8 @@ impl StepObserver for WakeOthers<'_> {
 
 // Each worker serves the client, and is called, as these acts say.
 fn note_acts(seats: &mut [Seat], acts: &[Act])
-    ensures { (number : ℕ) → number < length seats.old
-        → slice_index seats.new number ≡ after_acts number acts.now (uncalled (slice_index seats.old number)) }
+    ensures { (number : ℕ) → number < length seats.old → slice_index_or seats.new number vacant
+        ≡ after_acts number acts.now (uncalled (slice_index_or seats.old number vacant)) }
 {
     for number in 0..seats.len() {
         let before = uncalled(&seats[number]);
