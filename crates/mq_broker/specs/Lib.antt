@@ -1,4 +1,5 @@
 pub mod Configuration
 pub mod End
 pub mod Lines
+pub mod Missed
 pub mod Recovered

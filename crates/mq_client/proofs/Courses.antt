@@ -11,7 +11,7 @@ use Rattle.mq_end.specs.declared.reason.CloseReason.{CloseReason}
 use Rattle.mq_end.specs.Publishing.{ClientState}
 use Rattle.mq_end.specs.End.{over}
 use Rattle.mq_end.specs.State.{PutsOut, no_bytes}
-use Rattle.mq_client.specs.Course.{Ask, Does, Hear, Hears, Leaves, Lose, Moment, Runs, Starve, Step, Tick, Ticked, Went, WentFirst, Write, closed, forms, heard, asked, readings, sent, told}
+use Rattle.mq_client.specs.Course.{Ask, Does, Hear, Hears, Leaves, Line, Lose, Moment, Runs, Starve, Step, Tick, Ticked, Went, WentFirst, Write, closed, forms, heard, asked, readings, sent, told}
 use Rattle.mq_client.specs.Halts.{Closes, Reports, closes_of, halt_closes}
 use Rattle.mq_client.specs.Keeping.{Holds, saved_of}
 use Rattle.mq_client.specs.declared.error.ClientError.{ClientError}
@@ -46,12 +46,13 @@ went_none a = record {
   asks_are = refl;
   happenings_are = refl;
   reasons_are = refl;
+  limit = refl;
 }
 
 -- one step
 pub went_step : (s : Step) (a b : Moment) → Does s a.client b.client → Consumes a.coming b.coming (heard s) → Appends a.written b.written (sent s)
-    → Holds a.kept b.kept (forms s) → Appends a.times b.times (readings s) → Went a b (asked s) (told s) (closed s)
-went_step s a b does comes goes holds clock = record {
+    → Holds a.kept b.kept (forms s) → Appends a.times b.times (readings s) → b.line.limit ≡ a.line.limit → Went a b (asked s) (told s) (closed s)
+went_step s a b does comes goes holds clock same = record {
   steps = s ∷ [];
   runs = (b.client, does, refl);
   comes = subst (Consumes a.coming b.coming) (sym (append-nil (heard s))) comes;
@@ -61,6 +62,7 @@ went_step s a b does comes goes holds clock = record {
   asks_are = sym (append-nil (asked s));
   happenings_are = sym (append-nil (told s));
   reasons_are = sym (append-nil (closed s));
+  limit = same;
 }
 
 -- one course after another
@@ -76,6 +78,7 @@ went_then a b c ms ns hs ks rs ss p q = record {
   asks_are = ap (λ z. z ++ ns) p.asks_are ∙ ap (λ z. flat_map asked p.steps ++ z) q.asks_are ∙ sym (flat_map-append asked p.steps q.steps);
   happenings_are = ap (λ z. z ++ ks) p.happenings_are ∙ ap (λ z. flat_map told p.steps ++ z) q.happenings_are ∙ sym (flat_map-append told p.steps q.steps);
   reasons_are = ap (λ z. z ++ ss) p.reasons_are ∙ ap (λ z. flat_map closed p.steps ++ z) q.reasons_are ∙ sym (flat_map-append closed p.steps q.steps);
+  limit = q.limit ∙ p.limit;
 }
 
 -- more happenings and no request
@@ -90,60 +93,60 @@ went_still a b c ms hs rs p q =
 
 -- ---- the steps of a peer
 
-abbrev pub at : ClientState → Option (List ℕ) → Option (List ℕ) → Option (List ℕ) → Option (List ℕ) → ℕ → Moment
-at client coming written kept times quiet = record { client = client; coming = coming; written = written; kept = kept; times = times; quiet = quiet }
+abbrev pub at : ClientState → Option (List ℕ) → Option (List ℕ) → Option (List ℕ) → Option (List ℕ) → Line → Moment
+at client coming written kept times line = record { client = client; coming = coming; written = written; kept = kept; times = times; line = line }
 
 -- a step that sends and receives nothing
-pub stepped : (s : Step) (a b : ClientState) (k w h t u : Option (List ℕ)) (q : ℕ) → heard s ≡ [] → sent s ≡ [] → forms s ≡ [] → Appends t u (readings s) → Does s a b
+pub stepped : (s : Step) (a b : ClientState) (k w h t u : Option (List ℕ)) (q : Line) → heard s ≡ [] → sent s ≡ [] → forms s ≡ [] → Appends t u (readings s) → Does s a b
     → Went (at a k w h t q) (at b k w h u q) (asked s) (told s) (closed s)
 stepped s a b k w h t u q no_heard no_sent no_forms clock does =
     went_step s (at a k w h t q) (at b k w h u q) does (subst (Consumes k k) (sym no_heard) (Consumes-nil k)) (subst (Appends w w) (sym no_sent) (Appends-nil w))
-    (subst (Holds h h) (sym no_forms) (Holds-nil h)) clock
+    (subst (Holds h h) (sym no_forms) (Holds-nil h)) clock refl
 
 -- memory ran out at this time
-pub starved : (now : ℕ) (a : ClientState) (k w h t u : Option (List ℕ)) (q : ℕ) → Appends t u (now ∷ []) → Went (at a k w h t q) (at a k w h u q) [] [] []
+pub starved : (now : ℕ) (a : ClientState) (k w h t u : Option (List ℕ)) (q : Line) → Appends t u (now ∷ []) → Went (at a k w h t q) (at a k w h u q) [] [] []
 starved now a k w h t u q clock = stepped (Starve now) a a k w h t u q refl refl refl clock refl
 
 -- a tick is a course
 pub went_tick : (now : ℕ) (a b : Moment) → Ticked now a b → Went a b [] [] []
 went_tick now a b t =
     went_step (Tick now) a b t.ticks (subst (λ z. Consumes a.coming z []) (sym t.coming) (Consumes-nil a.coming))
-    (subst (λ z. Appends a.written z []) (sym t.written) (Appends-nil a.written)) (subst (λ z. Holds a.kept z []) (sym t.kept) (Holds-nil a.kept)) t.clock
+    (subst (λ z. Appends a.written z []) (sym t.written) (Appends-nil a.written)) (subst (λ z. Holds a.kept z []) (sym t.kept) (Holds-nil a.kept)) t.clock (ap (λ z. z.limit) t.line)
 
 -- the output was emptied
 abbrev pub emptied : ClientState → ClientState
 emptied a = record a { link = record a.link { output = []; room = no_bytes a.link.room } }
 
 -- the session was saved, and the whole output was written
-pub wrote : (a b : ClientState) (k j w v h i t : Option (List ℕ)) (q : ℕ) (bytes : List ℕ) → bytes ≡ a.link.output → b ≡ emptied a → Keeps k j → Appends w v bytes
+pub wrote : (a b : ClientState) (k j w v h i t : Option (List ℕ)) (q : Line) (bytes : List ℕ) → bytes ≡ a.link.output → b ≡ emptied a → Keeps k j → Appends w v bytes
     → Holds h i (saved_of a ∷ []) → Went (at a k w h t q) (at b j v i t q) [] [] []
 wrote a b k j w v h i t q bytes same left keeps goes holds =
     went_step (Write (saved_of a) bytes) (at a k w h t q) (at b j v i t q) (record { saved = refl; rest = []; parts = sym same ∙ sym (append-nil bytes); left = ap (λ c. c.link) left })
-    (Consumes-kept k k j [] (Consumes-nil k) keeps) goes holds (Appends-nil t)
+    (Consumes-kept k k j [] (Consumes-nil k) keeps) goes holds (Appends-nil t) refl
 
 -- the connection was lost
-pub lost : (a b : ClientState) (k j w v h t : Option (List ℕ)) (q : ℕ) → b.link.end ≡ over a.link.end → b.link.output ≡ [] → b.link.held ≡ [] → Keeps k j → Keeps w v
+pub lost : (a b : ClientState) (k j w v h t : Option (List ℕ)) (q : Line) → b.link.end ≡ over a.link.end → b.link.output ≡ [] → b.link.held ≡ [] → Keeps k j → Keeps w v
     → Went (at a k w h t q) (at b j v h t q) [] [] []
 lost a b k j w v h t q end output held keeps stays =
     went_step Lose (at a k w h t q) (at b j v h t q) (record { end = end; output = output; held = held })
-    (Consumes-kept k k j [] (Consumes-nil k) keeps) (Appends-kept w w v [] (Appends-nil w) stays) (Holds-nil h) (Appends-nil t)
+    (Consumes-kept k k j [] (Consumes-nil k) keeps) (Appends-kept w w v [] (Appends-nil w) stays) (Holds-nil h) (Appends-nil t) refl
 
 -- the session was saved, a front of the output was written, and then the connection was lost
-pub broke : (a b c : ClientState) (k j w v h i t : Option (List ℕ)) (q : ℕ) (bytes : List ℕ) → bytes ≡ a.link.output → b ≡ emptied a → Keeps k j → AppendsFront w v bytes
+pub broke : (a b c : ClientState) (k j w v h i t : Option (List ℕ)) (q : Line) (bytes : List ℕ) → bytes ≡ a.link.output → b ≡ emptied a → Keeps k j → AppendsFront w v bytes
     → Holds h i (saved_of a ∷ []) → c.link.end ≡ over b.link.end → c.link.output ≡ [] → c.link.held ≡ [] → Went (at a k w h t q) (at c j v i t q) [] [] []
 broke a b c k j w v h i t q bytes same left keeps goes holds end output held =
     let m : ClientState = record a { link = record a.link { output = goes.rest; room = no_bytes a.link.room } } in
     let first : Went (at a k w h t q) (at m j v i t q) [] [] [] =
     went_step (Write (saved_of a) goes.front) (at a k w h t q) (at m j v i t q) (record { saved = refl; rest = goes.rest; parts = sym same ∙ goes.parts; left = refl })
-    (Consumes-kept k k j [] (Consumes-nil k) keeps) goes.appends holds (Appends-nil t) in
+    (Consumes-kept k k j [] (Consumes-nil k) keeps) goes.appends holds (Appends-nil t) refl in
     let second : Went (at m j v i t q) (at c j v i t q) [] [] [] =
     went_step Lose (at m j v i t q) (at c j v i t q) (record { end = end ∙ ap (λ x. over x.link.end) left; output = output; held = held })
-    (Consumes-nil j) (Appends-nil v) (Holds-nil i) (Appends-nil t) in
+    (Consumes-nil j) (Appends-nil v) (Holds-nil i) (Appends-nil t) refl in
     went_then _ _ _ [] [] [] [] [] [] first second
 
 -- the client stays as it is
-pub stays : (a : ClientState) (k j w v h i t : Option (List ℕ)) (q r : ℕ) → Keeps k j → Keeps w v → Holds h i [] → Went (at a k w h t q) (at a j v i t r) [] [] []
-stays a k j w v h i t q r keeps stay holds = record {
+pub stays : (a : ClientState) (k j w v h i t : Option (List ℕ)) (q r : Line) → Keeps k j → Keeps w v → Holds h i [] → r.limit ≡ q.limit → Went (at a k w h t q) (at a j v i t r) [] [] []
+stays a k j w v h i t q r keeps stay holds same = record {
   steps = [];
   runs = refl;
   comes = Consumes-kept k k j [] (Consumes-nil k) keeps;
@@ -153,13 +156,14 @@ stays a k j w v h i t q r keeps stay holds = record {
   asks_are = refl;
   happenings_are = refl;
   reasons_are = refl;
+  limit = same;
 }
 
 -- a tick, and then bytes that the client received
-pub took : (now : ℕ) (s m n : Moment) (a b : ClientState) (k w h t : Option (List ℕ)) (q : ℕ) (bytes : List ℕ) (hs : List Happening) (why : Option CloseReason)
-    → Ticked now s m → n.client ≡ m.client → Consumes m.coming n.coming bytes → Keeps m.written n.written → n.kept ≡ m.kept → n.times ≡ m.times → at a k w h t q ≡ n
+pub took : (now : ℕ) (s m n : Moment) (a b : ClientState) (k w h t : Option (List ℕ)) (q : Line) (bytes : List ℕ) (hs : List Happening) (why : Option CloseReason)
+    → Ticked now s m → n.client ≡ m.client → Consumes m.coming n.coming bytes → Keeps m.written n.written → n.kept ≡ m.kept → n.times ≡ m.times → n.line.limit ≡ m.line.limit → at a k w h t q ≡ n
     → Hears bytes hs why a b → Went s (at b k w h t q) [] hs (option_to_list why)
-took now s m n a b k w h t q bytes hs why tick same comes keeps holds times is hears =
+took now s m n a b k w h t q bytes hs why tick same comes keeps holds times limit is hears =
     let does : Hears bytes hs why m.client b = subst (λ x. Hears bytes hs why x b) (ap (λ z. z.client) is ∙ same) hears in
     let came : Consumes m.coming k bytes = subst (λ z. Consumes m.coming z.coming bytes) (sym is) comes in
     let kept : Keeps m.written w = subst (λ z. Keeps m.written z.written) (sym is) keeps in
@@ -168,9 +172,10 @@ took now s m n a b k w h t q bytes hs why tick same comes keeps holds times is h
     went_step (Hear now bytes hs why) s (at b k w h t q) (m.client, tick.ticks, does) (subst (λ z. Consumes z k bytes) tick.coming came)
     (Appends-kept s.written s.written w [] (Appends-nil s.written) (subst (λ z. Keeps z w) tick.written kept))
     (subst (λ z. Holds s.kept z []) (sym held) (Holds-nil s.kept)) (subst (λ z. Appends s.times z (now ∷ [])) (sym read) tick.clock)
+    (ap (λ z. z.line.limit) is ∙ limit ∙ ap (λ z. z.limit) tick.line)
 
 -- and nothing was sent
-pub took_silent : (now : ℕ) (s m n : Moment) (a : ClientState) (k w h t : Option (List ℕ)) (q : ℕ) → Ticked now s m → Keeps m.written n.written → at a k w h t q ≡ n → Keeps s.written w
+pub took_silent : (now : ℕ) (s m n : Moment) (a : ClientState) (k w h t : Option (List ℕ)) (q : Line) → Ticked now s m → Keeps m.written n.written → at a k w h t q ≡ n → Keeps s.written w
 took_silent now s m n a k w h t q tick keeps is =
     subst (λ z. Keeps z w) tick.written (subst (λ z. Keeps m.written z.written) (sym is) keeps)
 

@@ -1,7 +1,7 @@
 -- What a client end at a stream does: the calls of it, in order, the bytes that it received and
 -- sent, the times that its clock reported, and the sessions that were saved before bytes were sent
 -- (3.1 to 3.14, 4.1, 4.2).
-use Rattle.std.specs.Prelude.{◌≡◌, ℕ, Bool, true, false, List, [], ◌∷◌, ◌++◌, Option, None, Result, Ok, Err, option_to_list}
+use Rattle.std.specs.Prelude.{◌≡◌, ◌⊎◌, ◌≤◌, ℕ, Bool, true, false, List, [], ◌∷◌, ◌++◌, Option, None, Result, Ok, Err, option_to_list}
 use Rattle.std.specs.List.{flat_map}
 use Rattle.std.specs.Io.KnownBytes.{Appends, Consumes}
 use Rattle.mq_packet.specs.declared.message.Message.{Message}
@@ -10,7 +10,7 @@ use Rattle.mq_packet.specs.declared.packet.Packet.TheVariants as packets
 use Rattle.mq_end.specs.declared.happening.Happening.{Happening}
 use Rattle.mq_end.specs.declared.reason.CloseReason.{CloseReason}
 use Rattle.mq_end.specs.End.{End, is_live, over}
-use Rattle.mq_end.specs.Client.{connects, subscribes, leaves}
+use Rattle.mq_end.specs.Client.{connects, subscribes, unsubscribes, leaves}
 use Rattle.mq_end.specs.State.{PutsOut, no_bytes}
 use Rattle.mq_end.specs.Publishing.{Accepts, ClientState, connect_of}
 use Rattle.mq_end.specs.Receiving.{Acts, ClientReceives}
@@ -18,23 +18,31 @@ use Rattle.mq_end.specs.Requests.{Requests, Ticks}
 use Rattle.mq_client.specs.declared.error.ClientError.{ClientError}
 use Rattle.mq_client.specs.Keeping.{Holds, saved_of}
 
+-- What is known of the connection itself. `closed` is false if the stream is known to be open.
+-- `quiet` counts the last reads, which brought nothing: after `limit` of them in a row the
+-- connection counts as lost.
+pub record Line : Type 0 where
+  pub closed : Bool
+  pub quiet : ℕ
+  pub limit : ℕ
+
 -- A client end at a stream. The bytes that are to come, the bytes that were sent, the session that
--- is saved and the times that the clock reported are there if they are known. `quiet` counts the
--- last reads that brought nothing.
+-- is saved and the times that the clock reported are there if they are known.
 pub record Moment : Type 0 where
   pub client : ClientState
   pub coming : Option (List ℕ)
   pub written : Option (List ℕ)
   pub kept : Option (List ℕ)
   pub times : Option (List ℕ)
-  pub quiet : ℕ
+  pub line : Line
 
--- a request of the user: a connection, with clean session or not (3.1), a publication (3.3) or a
--- subscription (3.8)
+-- a request of the user: a connection, with clean session or not (3.1), a publication (3.3), a
+-- subscription (3.8) or the end of one (3.10)
 pub data Ask : Type 0 where
   Opening : Bool → Ask
   Publication : Message → Ask
   Subscription : List Request → Ask
+  Unsubscription : List (List ℕ) → Ask
 
 -- ---- steps
 
@@ -48,6 +56,8 @@ pub data Step : Type 0 where
   Publish : Message → Step
   -- a subscription is requested (3.8)
   Subscribe : List Request → Step
+  -- the end of subscriptions with these filters is requested (3.10)
+  Unsubscribe : List (List ℕ) → Step
   -- the clock of the client is set to this time (3.1.2.10)
   Tick : ℕ → Step
   -- the clock reports this time, and memory runs out before it is used
@@ -78,6 +88,10 @@ pub record Subscribes (requests : List Request) (a b : ClientState) : Type 0 whe
   pub id : ℕ
   pub asks : Requests id (subscribes id requests a.link.end) a.link b.link
 
+pub record Unsubscribes (filters : List (List ℕ)) (a b : ClientState) : Type 0 where
+  pub id : ℕ
+  pub asks : Requests id (unsubscribes id filters a.link.end) a.link b.link
+
 pub record Writes (form bytes : List ℕ) (a b : ClientState) : Type 0 where
   pub saved : form ≡ saved_of a
   pub rest : List ℕ
@@ -95,6 +109,7 @@ Does (Connect now clean) a b = Connects now clean a b
 Does (Hear now bytes told closed) a b = (m : ClientState) × Ticks now a.link m.link × Hears bytes told closed m b
 Does (Publish m) a b = Publishes m a b
 Does (Subscribe requests) a b = Subscribes requests a b
+Does (Unsubscribe filters) a b = Unsubscribes filters a b
 Does (Tick now) a b = Ticks now a.link b.link
 Does (Starve now) a b = b ≡ a
 Does Leave a b = Acts (leaves a.link.end) a.link b.link
@@ -136,6 +151,7 @@ abbrev pub asked : Step → List Ask
 asked (Connect now clean) = Opening clean ∷ []
 asked (Publish m) = Publication m ∷ []
 asked (Subscribe requests) = Subscription requests ∷ []
+asked (Unsubscribe filters) = Unsubscription filters ∷ []
 asked s = []
 
 -- the happenings
@@ -162,6 +178,7 @@ pub record Went (a b : Moment) (asks : List Ask) (happenings : List Happening) (
   pub asks_are : asks ≡ flat_map asked steps
   pub happenings_are : happenings ≡ flat_map told steps
   pub reasons_are : reasons ≡ flat_map closed steps
+  pub limit : b.line.limit ≡ a.line.limit
 
 -- only a front of these requests was made
 pub record WentFirst (a b : Moment) (all : List Ask) (happenings : List Happening) (reasons : List CloseReason) : Type 0 where
@@ -177,6 +194,12 @@ pub record Ticked (now : ℕ) (a b : Moment) : Type 0 where
   pub written : b.written ≡ a.written
   pub kept : b.kept ≡ a.kept
   pub clock : Appends a.times b.times (now ∷ [])
+  pub line : b.line ≡ a.line
+
+-- The connection may be lost: too many reads in a row brought nothing, or the stream ended or
+-- failed.
+abbrev pub MayBeLost : Moment → Moment → Type 0
+MayBeLost a b = (a.line.limit ≤ a.line.quiet) ⊎ (b.line.closed ≡ true)
 
 -- The client leaves: after the pending output, DISCONNECT is sent last (3.14).
 pub record Leaves (a b : Moment) : Type 0 where

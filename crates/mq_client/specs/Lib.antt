@@ -1,5 +1,6 @@
 pub mod Halts
 pub mod Keeping
+pub mod Links
 pub mod Disk
 pub mod Course
 pub mod Printed

@@ -1,5 +1,7 @@
 //! Making connections.
 
+ghost use Rattle.std.specs.Prelude.{◌≡◌, None};
+
 use mq_stream::{Broken, Clock, Elapsed, SocketStream, Stream};
 use std::io::ErrorKind;
 use std::net::{Net, OpenStream, SocketAddr};
@@ -41,7 +43,10 @@ pub struct Loopback<'a, R: Net + time::Clock> {
 
 impl<'a, R: Net + time::Clock> Loopback<'a, R> {
     /// Makes connections to this port.
-    pub fn new(rt: &'a R, port: u16) -> Loopback<'a, R> {
+    pub fn new(rt: &'a R, port: u16) -> Loopback<'a, R>
+        ensures port { result.port ≡ port }
+        ensures failure { result.failure ≡ None }
+    {
         Loopback {
             rt,
             port,

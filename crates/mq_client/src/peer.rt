@@ -1,13 +1,13 @@
 //! A client end at a stream.
 
-ghost use Rattle.std.specs.Prelude.{◌≡◌, ◌≤◌, ◌<◌, ◌+◌, ◌↔◌, ◌∷◌, ℕ, [], true, false, List, Ok, length, take, IfOk, IsTrue, OnErr, OnOk, option_to_list};
+ghost use Rattle.std.specs.Prelude.{◌≡◌, ◌≢◌, ◌≤◌, ◌<◌, ◌+◌, ◌↔◌, ◌∷◌, ℕ, [], true, false, List, Ok, length, take, IfErr, IfOk, IsTrue, OnErr, OnOk, option_to_list};
 ghost use Rattle.std.specs.Io.KnownBytes.{Appends, Consumes, Keeps};
 ghost use Rattle.mq_packet.specs.declared.message.Message.{Message};
 ghost use Rattle.mq_flow.specs.Receiver.{none_received};
 ghost use Rattle.mq_end.specs.declared.happening.Happening.{Happening};
 ghost use Rattle.mq_end.specs.declared.reason.CloseReason.{CloseReason};
 ghost use Rattle.mq_end.specs.End.{is_up};
-ghost use Rattle.mq_client.specs.Course.{IsIdle, Leaves, Opening, Subscription, Ticked, Went, WentFirst, asked_by};
+ghost use Rattle.mq_client.specs.Course.{IsIdle, Leaves, MayBeLost, Opening, Subscription, Ticked, Unsubscription, Went, WentFirst, asked_by};
 ghost use Rattle.mq_client.specs.Halts.{Closes, closes_of, halt_closes};
 ghost use Rattle.mq_client.specs.Publishing.{resumed_of};
 
@@ -18,6 +18,7 @@ use mq_end::{ClientEnd, CloseReason, Happening, Progress, PublishRefusal, State}
 use mq_flow::Sender;
 use mq_packet::{Message, NonEmpty, Request};
 use mq_stream::{Clock, Stream};
+use mq_topic::TopicFilter;
 use std::marker::Model;
 
 /// The maximum number of bytes of a read.
@@ -27,8 +28,8 @@ const CHUNK: usize = 4096;
 /// (3.2). So the read that completes CONNACK completes no PUBLISH that needs an acknowledgement.
 const FIRST_CHUNK: usize = 4;
 
-/// The connection counts as lost after this many reads in a row that bring nothing.
-const MAX_QUIET: u32 = 900;
+/// The limit on quiet reads of a new peer.
+const QUIET_LIMIT: u64 = 900;
 
 /// A client end at a stream, with a clock and a session saver.
 #[derive(Drop)]
@@ -37,7 +38,9 @@ pub struct Peer<S: Stream, C: Clock, K: SessionSaver> {
     stream: S,
     clock: C,
     keeper: K,
-    quiet: u32,
+    // The number of the last reads in a row that brought nothing, and its limit.
+    quiet: u64,
+    quiet_limit: u64,
     // The number of messages that were published, of those that are not finished while the client
     // has a session, and of those that were delivered.
     accepted: usize,
@@ -61,7 +64,7 @@ impl<S: Stream, C: Clock, K: SessionSaver> Model for Peer<S, C, K> {
       written = S.written p.stream;
       kept = K.kept p.keeper;
       times = C.reported p.clock;
-      quiet = p.quiet;
+      line = record { closed = S.closed p.stream; quiet = p.quiet; limit = p.quiet_limit };
     } };
 }
 
@@ -77,7 +80,8 @@ fn halt_of(why: PublishRefusal) -> ClientError
 
 // The error of a session that was not saved.
 fn unkept(why: SaveError) -> ClientError
-    ensures { halt_closes result ≡ [] }
+    ensures goes_on { halt_closes result ≡ [] }
+    ensures stays { result ≢ ClientError.Lost }
 {
     match why {
         SaveError::Unwritten(kind) => ClientError::SaveError(kind),
@@ -123,14 +127,16 @@ fn messages_in(happenings: &[Happening]) -> usize {
 }
 
 impl<S: Stream, C: Clock, K: SessionSaver> Peer<S, C, K> {
-    /// A client at a stream. Begin with [`open`](Peer::open).
+    /// A client at a stream. Begin with [`open`](Peer::open). The connection counts as lost after
+    /// 900 reads in a row that bring nothing, unless [`set_quiet_limit`](Peer::set_quiet_limit)
+    /// changes that.
     pub fn new(client: ClientEnd, stream: S, clock: C, keeper: K) -> Peer<S, C, K>
         ensures client { result.client ≡ client }
         ensures coming { result.coming ≡ S.coming stream }
         ensures written { result.written ≡ S.written stream }
         ensures kept { result.kept ≡ K.kept keeper }
         ensures times { result.times ≡ C.reported clock }
-        ensures quiet { result.quiet ≡ 0 }
+        ensures line { result.line ≡ record { closed = S.closed stream; quiet = 0; limit = 900 } }
     {
         Peer {
             client,
@@ -138,10 +144,22 @@ impl<S: Stream, C: Clock, K: SessionSaver> Peer<S, C, K> {
             clock,
             keeper,
             quiet: 0,
+            quiet_limit: QUIET_LIMIT,
             accepted: 0,
             open: 0,
             delivered: 0,
         }
+    }
+
+    /// Sets the number of reads in a row that bring nothing after which the connection counts as
+    /// lost. With `u64::MAX` it never does.
+    ///
+    /// A client with keep-alive 0 sends no PINGREQ (3.1.2.10), so its connection may be quiet for
+    /// any time.
+    pub fn set_quiet_limit(&mut self, limit: u64)
+        ensures { self.new ≡ record self.old { line = record self.old.line { limit = limit } } }
+    {
+        self.quiet_limit = limit;
     }
 
     /// The client end.
@@ -155,6 +173,7 @@ impl<S: Stream, C: Clock, K: SessionSaver> Peer<S, C, K> {
     pub fn stream(&self) -> &S
         ensures coming { S.coming result.now ≡ self.now.coming }
         ensures written { S.written result.now ≡ self.now.written }
+        ensures closed { S.closed result.now ≡ self.now.line.closed }
     {
         &self.stream
     }
@@ -184,7 +203,7 @@ impl<S: Stream, C: Clock, K: SessionSaver> Peer<S, C, K> {
         Halt {
             error,
             done: self.accepted.saturating_sub(self.open),
-            is_silent: self.quiet >= MAX_QUIET,
+            is_silent: self.quiet >= self.quiet_limit,
         }
     }
 
@@ -195,7 +214,7 @@ impl<S: Stream, C: Clock, K: SessionSaver> Peer<S, C, K> {
         Halt {
             error,
             done: self.delivered,
-            is_silent: self.quiet >= MAX_QUIET,
+            is_silent: self.quiet >= self.quiet_limit,
         }
     }
 
@@ -203,6 +222,7 @@ impl<S: Stream, C: Clock, K: SessionSaver> Peer<S, C, K> {
     fn tick(&mut self) -> Result<u64, ClientError>
         ensures ok { IfOk result (λ now. Ticked now self.old self.new) }
         ensures err { OnErr result (Went self.old self.new [] [] []) }
+        ensures memory { IfErr result (λ why. why ≡ ClientError.Memory) }
         ensures written { self.new.written ≡ self.old.written }
         ensures goes_on { closes_of result ≡ [] }
     {
@@ -218,6 +238,8 @@ impl<S: Stream, C: Clock, K: SessionSaver> Peer<S, C, K> {
         ensures goes_on { closes_of result ≡ [] }
         ensures all { OnOk result
             (Appends self.old.written self.new.written self.old.client.link.output) }
+        ensures loss { IfErr result
+            (λ why. why ≡ ClientError.Lost → self.new.line.closed ≡ true) }
     {
         if let Err(why) = self.keeper.keep(&self.client) {
             return Err(unkept(why));
@@ -248,6 +270,7 @@ impl<S: Stream, C: Clock, K: SessionSaver> Peer<S, C, K> {
     fn lose(&mut self) -> ClientError
         ensures went { Went self.old self.new [] [] [] }
         ensures written { self.new.written ≡ self.old.written }
+        ensures line { self.new.line ≡ self.old.line }
         ensures goes_on { halt_closes result ≡ [] }
     {
         self.client.dropped();
@@ -263,12 +286,14 @@ impl<S: Stream, C: Clock, K: SessionSaver> Peer<S, C, K> {
         ensures written { Keeps self.old.written self.new.written }
         ensures kept { OnOk result (self.new.kept ≡ self.old.kept) }
         ensures times { OnOk result (self.new.times ≡ self.old.times) }
-        ensures heard { IfOk result (λ n. 0 < n → self.new.quiet ≡ 0) }
-        ensures silent { IfOk result (λ n. n ≡ 0 → self.new.quiet ≡ self.old.quiet + 1) }
+        ensures heard { IfOk result (λ n. 0 < n → self.new.line.quiet ≡ 0) }
+        ensures silent { IfOk result (λ n. n ≡ 0 → self.new.line.quiet ≡ self.old.line.quiet + 1) }
+        ensures limit { self.new.line.limit ≡ self.old.line.limit }
         ensures went { OnErr result (Went self.old self.new [] [] []) }
+        ensures loss { OnErr result (MayBeLost self.old self.new) }
         ensures goes_on { closes_of result ≡ [] }
     {
-        if self.quiet >= MAX_QUIET {
+        if self.quiet >= self.quiet_limit {
             return Err(self.lose());
         }
         match self.stream.read(room).count() {
@@ -290,6 +315,8 @@ impl<S: Stream, C: Clock, K: SessionSaver> Peer<S, C, K> {
             (λ p. Went self.old self.new [] p.happenings (option_to_list p.closed)) }
         ensures silent { Keeps self.old.written self.new.written }
         ensures lost { OnErr result (Went self.old self.new [] [] []) }
+        ensures loss { IfErr result
+            (λ why. why ≡ ClientError.Lost → MayBeLost self.old self.new) }
         ensures goes_on { closes_of result ≡ [] }
     {
         let now = self.tick()?;
@@ -308,6 +335,8 @@ impl<S: Stream, C: Clock, K: SessionSaver> Peer<S, C, K> {
             (λ p. Went self.old self.new [] p.happenings (option_to_list p.closed)) }
         ensures silent { Keeps self.old.written self.new.written }
         ensures lost { OnErr result (Went self.old self.new [] [] []) }
+        ensures loss { IfErr result
+            (λ why. why ≡ ClientError.Lost → MayBeLost self.old self.new) }
         ensures goes_on { closes_of result ≡ [] }
     {
         if !self.is_up() {
@@ -403,6 +432,20 @@ impl<S: Stream, C: Clock, K: SessionSaver> Peer<S, C, K> {
         ensures goes_on { closes_of result ≡ [] }
     {
         if let Err(why) = self.client.subscribe(requests) {
+            return Err(halt_of(why));
+        }
+        Ok(())
+    }
+
+    /// Requests the end of subscriptions (3.10). The answer is an
+    /// [`UnsubAck`](Happening::UnsubAck) with the packet identifier of the request (3.11).
+    pub fn unsubscribe(&mut self, filters: NonEmpty<TopicFilter>) -> Result<(), ClientError>
+        ensures went { OnOk result
+            (Went self.old self.new (Unsubscription filters ∷ []) [] []) }
+        ensures refused { OnErr result (Went self.old self.new [] [] []) }
+        ensures goes_on { closes_of result ≡ [] }
+    {
+        if let Err(why) = self.client.unsubscribe(filters) {
             return Err(halt_of(why));
         }
         Ok(())

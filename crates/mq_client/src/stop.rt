@@ -1,6 +1,6 @@
 //! The early stop of a client program.
 
-ghost use Rattle.std.specs.Prelude.{◌≡◌};
+ghost use Rattle.std.specs.Prelude.{◌≡◌, false};
 
 use crate::client::LoadFailure;
 use crate::error::ClientError;
@@ -32,7 +32,7 @@ pub struct Halt {
 impl Halt {
     /// A halt before the first message.
     pub fn early(error: ClientError) -> Halt
-        ensures { result.error ≡ error }
+        ensures { result ≡ record { error = error; done = 0; is_silent = false } }
     {
         Halt {
             error,

@@ -33,7 +33,7 @@ grows_more old mid new log i act d low is before after = record {
   gauges = after.gauges ∙ before.gauges;
 }
 
-close_low : (reason : HubClose) → close_number reason < 13
+close_low : (reason : HubClose) → close_number reason < 14
 close_low (closes.Own (ends.Fault fault)) = lit< tt
 close_low (closes.Own ends.Unexpected) = lit< tt
 close_low (closes.Own (ends.Refused code)) = lit< tt
@@ -46,6 +46,7 @@ close_low closes.TargetFull = lit< tt
 close_low closes.TakenOver = lit< tt
 close_low closes.PeerEnded = lit< tt
 close_low closes.NoConnect = lit< tt
+close_low closes.TooManyMatches = lit< tt
 
 qos_low : (qos : Qos) → qos_number qos < 3
 qos_low qoses.Q0 = lit< tt
@@ -59,15 +60,15 @@ refusal_low refusals.ServerUnavailable = lit< tt
 refusal_low refusals.BadUserNameOrPassword = lit< tt
 refusal_low refusals.NotAuthorized = lit< tt
 
--- each counter has a place among 42
-pub place_low : (counter : Counter) → place counter < 42
+-- each counter has a place among 43
+pub place_low : (counter : Counter) → place counter < 43
 place_low (counters.MessagesIn qos) = let h : qos_number qos < 3 = qos_low qos in omega arith
 place_low (counters.MessageBytesIn qos) = let h : qos_number qos < 3 = qos_low qos in omega arith
 place_low (counters.MessagesOut qos) = let h : qos_number qos < 3 = qos_low qos in omega arith
 place_low (counters.MessageBytesOut qos) = let h : qos_number qos < 3 = qos_low qos in omega arith
 place_low (counters.Missed misses.SessionFull) = lit< tt
 place_low (counters.Missed misses.OutputFull) = lit< tt
-place_low (counters.Closed reason) = let h : close_number reason < 13 = close_low reason in omega arith
+place_low (counters.Closed reason) = let h : close_number reason < 14 = close_low reason in omega arith
 place_low (counters.Refused code) = let h : refusal_number code < 6 = refusal_low code in omega arith
 place_low counters.Connected = lit< tt
 place_low counters.SessionsEnded = lit< tt

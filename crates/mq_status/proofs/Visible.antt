@@ -69,6 +69,7 @@ close_visible closes.TargetFull = refl
 close_visible closes.TakenOver = refl
 close_visible closes.PeerEnded = refl
 close_visible closes.NoConnect = refl
+close_visible closes.TooManyMatches = refl
 
 words_visible : (code : RefusalCode) → IsVisible (refusal_words code)
 words_visible refusals.UnacceptableProtocolVersion = refl

@@ -33,6 +33,7 @@ close_number closes.TakenOver = 9
 close_number closes.PeerEnded = 10
 close_number (closes.Own ends.Window) = 11
 close_number closes.NoConnect = 12
+close_number closes.TooManyMatches = 13
 
 -- the place of a counter among all
 abbrev pub place : Counter → ℕ
@@ -43,18 +44,18 @@ place (counters.MessageBytesOut qos) = 9 + qos_number qos
 place (counters.Missed misses.SessionFull) = 12
 place (counters.Missed misses.OutputFull) = 13
 place (counters.Closed reason) = 13 + close_number reason
-place (counters.Refused code) = 25 + refusal_number code
-place counters.Connected = 31
-place counters.SessionsEnded = 32
-place counters.Subscribed = 33
-place counters.Unsubscribed = 34
-place counters.Wills = 35
-place counters.WillsDropped = 36
-place counters.BytesRead = 37
-place counters.BytesWritten = 38
-place counters.TurnedAway = 39
-place counters.Rounds = 40
-place counters.RoundMicroseconds = 41
+place (counters.Refused code) = 26 + refusal_number code
+place counters.Connected = 32
+place counters.SessionsEnded = 33
+place counters.Subscribed = 34
+place counters.Unsubscribed = 35
+place counters.Wills = 36
+place counters.WillsDropped = 37
+place counters.BytesRead = 38
+place counters.BytesWritten = 39
+place counters.TurnedAway = 40
+place counters.Rounds = 41
+place counters.RoundMicroseconds = 42
 
 -- ---- values
 

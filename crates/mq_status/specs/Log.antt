@@ -25,6 +25,7 @@ close_words closes.TargetFull = codes "a subscriber's session is full"
 close_words closes.TakenOver = codes "client connected again"
 close_words closes.PeerEnded = codes "connection ended by peer"
 close_words closes.NoConnect = codes "no CONNECT in time"
+close_words closes.TooManyMatches = codes "too many retained messages"
 
 -- (3.2.2.3)
 abbrev pub refusal_words : RefusalCode → List ℕ

@@ -2,6 +2,7 @@
 -- help and a line with its type.
 use Rattle.std.specs.Prelude.{ℕ, ◌+◌, ◌-◌, ◌/◌, ◌%◌, List, [], ◌∷◌, ◌++◌, length, replicate, slice_index, codes, decimal}
 use Rattle.std.specs.List.{flat_map}
+use Rattle.mq_status.specs.Counting.{Numbers}
 use Rattle.mq_status.specs.declared.metrics.Gauges.{Gauges}
 
 -- the two lines at the head of a family
@@ -51,30 +52,31 @@ closed_text counts =
     family_text (codes "mqtt_connections_closed_total") (codes "Connections closed, by reason.") (codes "code")
     (at counts (codes "C1") 14 ∷ at counts (codes "C2") 15 ∷ at counts (codes "C3") 16 ∷ at counts (codes "C4") 17
     ∷ at counts (codes "C5") 18 ∷ at counts (codes "C6") 19 ∷ at counts (codes "C7") 20 ∷ at counts (codes "C8") 21
-    ∷ at counts (codes "C9") 22 ∷ at counts (codes "C10") 23 ∷ at counts (codes "C11") 24 ∷ at counts (codes "C12") 25 ∷ [])
+    ∷ at counts (codes "C9") 22 ∷ at counts (codes "C10") 23 ∷ at counts (codes "C11") 24 ∷ at counts (codes "C12") 25
+    ∷ at counts (codes "C13") 26 ∷ [])
 
 abbrev pub refused_text : List ℕ → List ℕ
 refused_text counts =
     family_text (codes "mqtt_connects_refused_total") (codes "CONNECT packets refused, by return code.") (codes "code")
-    (at counts (codes "1") 26 ∷ at counts (codes "2") 27 ∷ at counts (codes "3") 28 ∷ at counts (codes "4") 29 ∷ at counts (codes "5") 30 ∷ [])
+    (at counts (codes "1") 27 ∷ at counts (codes "2") 28 ∷ at counts (codes "3") 29 ∷ at counts (codes "4") 30 ∷ at counts (codes "5") 31 ∷ [])
 
 abbrev pub sessions_text : List ℕ → List ℕ
 sessions_text counts =
-    single_text (codes "mqtt_connects_accepted_total") (codes "CONNECT packets accepted.") (codes "counter") (slice_index counts 31)
-    ++ (single_text (codes "mqtt_sessions_ended_total") (codes "Sessions removed.") (codes "counter") (slice_index counts 32)
-    ++ (single_text (codes "mqtt_subscribes_total") (codes "Subscriptions stored.") (codes "counter") (slice_index counts 33)
-    ++ (single_text (codes "mqtt_unsubscribes_total") (codes "Subscriptions removed by UNSUBSCRIBE.") (codes "counter") (slice_index counts 34))))
+    single_text (codes "mqtt_connects_accepted_total") (codes "CONNECT packets accepted.") (codes "counter") (slice_index counts 32)
+    ++ (single_text (codes "mqtt_sessions_ended_total") (codes "Sessions removed.") (codes "counter") (slice_index counts 33)
+    ++ (single_text (codes "mqtt_subscribes_total") (codes "Subscriptions stored.") (codes "counter") (slice_index counts 34)
+    ++ (single_text (codes "mqtt_unsubscribes_total") (codes "Subscriptions removed by UNSUBSCRIBE.") (codes "counter") (slice_index counts 35))))
 
 abbrev pub wills_text : List ℕ → List ℕ
 wills_text counts =
-    single_text (codes "mqtt_wills_total") (codes "Wills published.") (codes "counter") (slice_index counts 35)
-    ++ single_text (codes "mqtt_wills_dropped_total") (codes "Wills dropped.") (codes "counter") (slice_index counts 36)
+    single_text (codes "mqtt_wills_total") (codes "Wills published.") (codes "counter") (slice_index counts 36)
+    ++ single_text (codes "mqtt_wills_dropped_total") (codes "Wills dropped.") (codes "counter") (slice_index counts 37)
 
 abbrev pub traffic_text : List ℕ → List ℕ
 traffic_text counts =
-    single_text (codes "mqtt_bytes_read_total") (codes "Bytes read from connections.") (codes "counter") (slice_index counts 37)
-    ++ (single_text (codes "mqtt_bytes_written_total") (codes "Bytes written to connections.") (codes "counter") (slice_index counts 38)
-    ++ single_text (codes "mqtt_connections_turned_away_total") (codes "Connections closed at once because there were too many.") (codes "counter") (slice_index counts 39))
+    single_text (codes "mqtt_bytes_read_total") (codes "Bytes read from connections.") (codes "counter") (slice_index counts 38)
+    ++ (single_text (codes "mqtt_bytes_written_total") (codes "Bytes written to connections.") (codes "counter") (slice_index counts 39)
+    ++ single_text (codes "mqtt_connections_turned_away_total") (codes "Connections closed at once because there were too many.") (codes "counter") (slice_index counts 40))
 
 -- a number with zeros before it, up to six digits
 abbrev pub six_digits : ℕ → List ℕ
@@ -89,8 +91,17 @@ seconds_text microseconds =
 abbrev pub rounds_text : List ℕ → List ℕ
 rounds_text counts =
     head_text (codes "mqtt_round_seconds") (codes "Time of the event loop's rounds, without waiting.") (codes "summary")
-    ++ (seconds_text (slice_index counts 41)
-    ++ (codes "mqtt_round_seconds_count " ++ (decimal (slice_index counts 40) ++ codes "\n")))
+    ++ (seconds_text (slice_index counts 42)
+    ++ (codes "mqtt_round_seconds_count " ++ (decimal (slice_index counts 41) ++ codes "\n")))
+
+abbrev pub counters_text : List ℕ → List ℕ
+counters_text counts =
+    messages_text counts ++ (missed_text counts
+    ++ (closed_text counts
+    ++ (refused_text counts
+    ++ (sessions_text counts
+    ++ (wills_text counts
+    ++ (traffic_text counts ++ rounds_text counts))))))
 
 -- ---- gauges
 
@@ -105,3 +116,8 @@ abbrev pub memory_text : Gauges → List ℕ
 memory_text gauges =
     single_text (codes "mqtt_stored_messages") (codes "Messages stored in sessions.") (codes "gauge") gauges.stored_messages
     ++ single_text (codes "mqtt_pending_bytes") (codes "Bytes pending on connections.") (codes "gauge") gauges.pending_bytes
+
+-- ---- all metrics
+
+abbrev pub prometheus_text : Numbers → List ℕ
+prometheus_text numbers = gauges_text numbers.gauges ++ (memory_text numbers.gauges ++ counters_text numbers.counts)

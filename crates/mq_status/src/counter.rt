@@ -9,7 +9,7 @@ use mq_route::HubClose;
 use mq_topic::Qos;
 
 /// The number of counters.
-pub const COUNTERS: usize = 42;
+pub const COUNTERS: usize = 43;
 
 /// Why a client misses a message.
 #[derive(Clone, Copy)]
@@ -74,7 +74,7 @@ pub enum Counter {
 // The number of a close's code: 5 for `C5`.
 fn close_number(reason: HubClose) -> usize
     ensures value { result ≡ close_number reason }
-    ensures bound { result < 13 }
+    ensures bound { result < 14 }
 {
     match reason {
         HubClose::Own(CloseReason::Fault(_)) => 1,
@@ -89,6 +89,7 @@ fn close_number(reason: HubClose) -> usize
         HubClose::PeerEnded => 10,
         HubClose::Own(CloseReason::Window) => 11,
         HubClose::NoConnect => 12,
+        HubClose::TooManyMatches => 13,
     }
 }
 
@@ -96,7 +97,7 @@ impl Counter {
     /// Returns the place of the counter among all, below [`COUNTERS`].
     pub fn place(self) -> usize
         ensures value { result ≡ place self }
-        ensures bound { result < 42 }
+        ensures bound { result < 43 }
     {
         match self {
             Counter::MessagesIn(qos) => usize::from(qos.number()),
@@ -106,18 +107,18 @@ impl Counter {
             Counter::Missed(MissReason::SessionFull) => 12,
             Counter::Missed(MissReason::OutputFull) => 13,
             Counter::Closed(reason) => 13 + close_number(reason),
-            Counter::Refused(code) => 25 + usize::from(code.number()),
-            Counter::Connected => 31,
-            Counter::SessionsEnded => 32,
-            Counter::Subscribed => 33,
-            Counter::Unsubscribed => 34,
-            Counter::Wills => 35,
-            Counter::WillsDropped => 36,
-            Counter::BytesRead => 37,
-            Counter::BytesWritten => 38,
-            Counter::TurnedAway => 39,
-            Counter::Rounds => 40,
-            Counter::RoundMicroseconds => 41,
+            Counter::Refused(code) => 26 + usize::from(code.number()),
+            Counter::Connected => 32,
+            Counter::SessionsEnded => 33,
+            Counter::Subscribed => 34,
+            Counter::Unsubscribed => 35,
+            Counter::Wills => 36,
+            Counter::WillsDropped => 37,
+            Counter::BytesRead => 38,
+            Counter::BytesWritten => 39,
+            Counter::TurnedAway => 40,
+            Counter::Rounds => 41,
+            Counter::RoundMicroseconds => 42,
         }
     }
 }

@@ -49,6 +49,7 @@ fn close_words(reason: HubClose) -> &'static str
         HubClose::TakenOver => "client connected again",
         HubClose::PeerEnded => "connection ended by peer",
         HubClose::NoConnect => "no CONNECT in time",
+        HubClose::TooManyMatches => "too many retained messages",
     }
 }
 

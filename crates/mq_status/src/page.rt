@@ -1,9 +1,9 @@
 //! The status page.
 
-ghost use Rattle.std.specs.Prelude.{◌≡◌, OnOk};
+ghost use Rattle.std.specs.Prelude.{◌≡◌, ◌++◌, ◌<◌, codes, OnOk};
 ghost use Rattle.std.specs.List.{flat_map};
 ghost use Rattle.std.specs.Io.KnownBytes.{Appends};
-ghost use Rattle.mq_status.specs.Page.{row_text, state_word};
+ghost use Rattle.mq_status.specs.Page.{by_qos_row, closed_text, connections_text, gauges_text, item_text, messages_text, missed_text, page_text, refused_text, row_text, sessions_text, state_word, title_text, totals_text};
 
 use crate::counter::COUNTERS;
 use crate::html::HtmlEscaped;
@@ -43,43 +43,6 @@ const MESSAGES: &str = "<h2>Messages</h2>\n<table>\n<tr><th>quality of service<t
 
 const SESSIONS: &str = "<h2>Sessions</h2>\n<div><table>\n<tr><th>client<th>stored messages\
 <th>pending bytes<th>missed<th>state";
-
-const CLOSES: [&str; 12] = [
-    "malformed packet (C1)",
-    "unexpected packet (C2)",
-    "CONNECT refused (C3)",
-    "session lost (C4)",
-    "keep-alive expired (C5)",
-    "out of memory (C6)",
-    "client disconnected (C7)",
-    "session full (C8)",
-    "client connected again (C9)",
-    "connection ended by peer (C10)",
-    "receive window exceeded (C11)",
-    "no CONNECT in time (C12)",
-];
-
-const REFUSALS: [&str; 5] = [
-    "unacceptable protocol version (1)",
-    "identifier rejected (2)",
-    "server unavailable (3)",
-    "bad user name or password (4)",
-    "not authorized (5)",
-];
-
-const TOTALS: [&str; 11] = [
-    "connects accepted",
-    "sessions ended",
-    "subscriptions stored",
-    "subscriptions removed",
-    "wills published",
-    "wills dropped",
-    "bytes read",
-    "bytes written",
-    "connections turned away",
-    "rounds",
-    "microseconds in rounds",
-];
 
 /// The state of a session, as the page shows it.
 #[derive(Clone, Copy)]
@@ -148,68 +111,176 @@ fn write_rows<W: Write>(output: &mut W, rows: &[SessionRow]) -> io::Result<()>
     Ok(())
 }
 
-// Writes a row of a table of numbers: a heading and its numbers.
-fn write_numbers<W: Write>(output: &mut W, heading: &str, numbers: &[u64]) -> io::Result<()> {
-    write!(output, "<tr><th>{heading}")?;
-    for number in numbers {
-        write!(output, "<td>{number}")?;
-    }
-    writeln!(output, "")
+// A row of a list: its heading and its number.
+#[derive(Clone, Copy)]
+struct Item(&'static str, u64);
+
+// Writes a row of counters, one for each quality of service, the first at `place`.
+fn write_by_qos<W: Write>(
+    output: &mut W,
+    heading: &str,
+    counts: &[u64; COUNTERS],
+    place: usize,
+) -> io::Result<()>
+    requires { place < 40 }
+    ensures { OnOk result (Appends (W.contents output.old) (W.contents output.new)
+        (by_qos_row heading.now counts.now place)) }
+{
+    let (first, second, third) = (counts[place], counts[place + 1], counts[place + 2]);
+    writeln!(
+        output,
+        "<tr><th>{heading}<td>{first}<td>{second}<td>{third}"
+    )
 }
 
-// Writes a table of numbers, with one number in each row.
-fn write_list<W: Write>(output: &mut W, headings: &[&str], numbers: &[u64]) -> io::Result<()> {
-    writeln!(output, "<table>")?;
-    for (heading, number) in headings.iter().zip(numbers) {
-        writeln!(output, "<tr><th>{heading}<td>{number}")?;
+// Writes a row of a list.
+fn write_item<W: Write>(output: &mut W, heading: &str, number: u64) -> io::Result<()>
+    ensures { OnOk result (Appends (W.contents output.old) (W.contents output.new)
+        (item_text heading.now number)) }
+{
+    writeln!(output, "<tr><th>{heading}<td>{number}")
+}
+
+// Writes the rows of a list.
+fn write_items<W: Write>(output: &mut W, items: &[Item]) -> io::Result<()>
+    ensures { OnOk result (Appends (W.contents output.old) (W.contents output.new)
+        (flat_map (λ i. item_text i.0.now i.1) items.now)) }
+{
+    for item in items {
+        write_item(output, item.0, item.1)?;
     }
+    Ok(())
+}
+
+// Writes a list under a title.
+fn write_list<W: Write>(output: &mut W, title: &str, items: &[Item]) -> io::Result<()>
+    ensures { OnOk result (Appends (W.contents output.old) (W.contents output.new)
+        (title_text title.now
+        ++ (flat_map (λ i. item_text i.0.now i.1) items.now ++ codes "</table>\n"))) }
+{
+    writeln!(output, "<h2>{title}</h2>\n<table>")?;
+    write_items(output, items)?;
     writeln!(output, "</table>")
 }
 
 // Writes the gauges.
-fn write_gauges<W: Write>(output: &mut W, gauges: Gauges) -> io::Result<()> {
-    writeln!(output, "<h2>Now</h2>")?;
-    write_list(
-        output,
-        &[
-            "connections",
-            "sessions",
-            "subscriptions",
-            "retained messages",
-            "stored messages",
-            "pending bytes",
-        ],
-        &[
-            gauges.connections,
-            gauges.sessions,
-            gauges.subscriptions,
-            gauges.retained,
-            gauges.stored_messages,
-            gauges.pending_bytes,
-        ],
-    )
+fn write_gauges<W: Write>(output: &mut W, gauges: Gauges) -> io::Result<()>
+    ensures { OnOk result (Appends (W.contents output.old) (W.contents output.new)
+        (gauges_text gauges)) }
+{
+    let items = [
+        Item("connections", gauges.connections),
+        Item("sessions", gauges.sessions),
+        Item("subscriptions", gauges.subscriptions),
+        Item("retained messages", gauges.retained),
+        Item("stored messages", gauges.stored_messages),
+        Item("pending bytes", gauges.pending_bytes),
+    ];
+    write_list(output, "Now", &items)
 }
 
 // Writes the counters of messages.
-fn write_messages<W: Write>(output: &mut W, counts: &[u64; COUNTERS]) -> io::Result<()> {
+fn write_messages<W: Write>(output: &mut W, counts: &[u64; COUNTERS]) -> io::Result<()>
+    ensures { OnOk result (Appends (W.contents output.old) (W.contents output.new)
+        (messages_text counts.now)) }
+{
     writeln!(output, "{MESSAGES}")?;
-    write_numbers(output, "messages in", &counts[0..3])?;
-    write_numbers(output, "bytes in", &counts[3..6])?;
-    write_numbers(output, "messages out", &counts[6..9])?;
-    write_numbers(output, "bytes out", &counts[9..12])?;
-    writeln!(output, "</table>")?;
-    writeln!(output, "<h2>Missed</h2>")?;
-    write_list(output, &["session full", "output full"], &counts[12..14])
+    write_by_qos(output, "messages in", counts, 0)?;
+    write_by_qos(output, "bytes in", counts, 3)?;
+    write_by_qos(output, "messages out", counts, 6)?;
+    write_by_qos(output, "bytes out", counts, 9)?;
+    writeln!(output, "</table>")
+}
+
+// Writes the counters of missed messages.
+fn write_missed<W: Write>(output: &mut W, counts: &[u64; COUNTERS]) -> io::Result<()>
+    ensures { OnOk result (Appends (W.contents output.old) (W.contents output.new)
+        (missed_text counts.now)) }
+{
+    let items = [
+        Item("session full", counts[12]),
+        Item("output full", counts[13]),
+    ];
+    write_list(output, "Missed", &items)
+}
+
+// Writes the table of sessions.
+fn write_sessions<W: Write>(output: &mut W, rows: &[SessionRow]) -> io::Result<()>
+    ensures { OnOk result (Appends (W.contents output.old) (W.contents output.new)
+        (sessions_text rows.now)) }
+{
+    writeln!(output, "{SESSIONS}")?;
+    write_rows(output, rows)?;
+    writeln!(output, "</table></div>")
+}
+
+// Writes the counters of closed connections.
+fn write_closed<W: Write>(output: &mut W, counts: &[u64; COUNTERS]) -> io::Result<()>
+    ensures { OnOk result (Appends (W.contents output.old) (W.contents output.new)
+        (closed_text counts.now)) }
+{
+    let items = [
+        Item("malformed packet (C1)", counts[14]),
+        Item("unexpected packet (C2)", counts[15]),
+        Item("CONNECT refused (C3)", counts[16]),
+        Item("session lost (C4)", counts[17]),
+        Item("keep-alive expired (C5)", counts[18]),
+        Item("out of memory (C6)", counts[19]),
+        Item("client disconnected (C7)", counts[20]),
+        Item("session full (C8)", counts[21]),
+        Item("client connected again (C9)", counts[22]),
+        Item("connection ended by peer (C10)", counts[23]),
+        Item("receive window exceeded (C11)", counts[24]),
+        Item("no CONNECT in time (C12)", counts[25]),
+        Item("too many retained messages (C13)", counts[26]),
+    ];
+    write_list(output, "Closed", &items)
+}
+
+// Writes the counters of refused CONNECT packets.
+fn write_refused<W: Write>(output: &mut W, counts: &[u64; COUNTERS]) -> io::Result<()>
+    ensures { OnOk result (Appends (W.contents output.old) (W.contents output.new)
+        (refused_text counts.now)) }
+{
+    let items = [
+        Item("unacceptable protocol version (1)", counts[27]),
+        Item("identifier rejected (2)", counts[28]),
+        Item("server unavailable (3)", counts[29]),
+        Item("bad user name or password (4)", counts[30]),
+        Item("not authorized (5)", counts[31]),
+    ];
+    write_list(output, "Refused", &items)
 }
 
 // Writes the other counters.
-fn write_connections<W: Write>(output: &mut W, counts: &[u64; COUNTERS]) -> io::Result<()> {
-    writeln!(output, "<h2>Closed</h2>")?;
-    write_list(output, &CLOSES, &counts[14..26])?;
-    writeln!(output, "<h2>Refused</h2>")?;
-    write_list(output, &REFUSALS, &counts[26..31])?;
-    writeln!(output, "<h2>Total</h2>")?;
-    write_list(output, &TOTALS, &counts[31..42])
+fn write_totals<W: Write>(output: &mut W, counts: &[u64; COUNTERS]) -> io::Result<()>
+    ensures { OnOk result (Appends (W.contents output.old) (W.contents output.new)
+        (totals_text counts.now)) }
+{
+    let items = [
+        Item("connects accepted", counts[32]),
+        Item("sessions ended", counts[33]),
+        Item("subscriptions stored", counts[34]),
+        Item("subscriptions removed", counts[35]),
+        Item("wills published", counts[36]),
+        Item("wills dropped", counts[37]),
+        Item("bytes read", counts[38]),
+        Item("bytes written", counts[39]),
+        Item("connections turned away", counts[40]),
+        Item("rounds", counts[41]),
+        Item("microseconds in rounds", counts[42]),
+    ];
+    write_list(output, "Total", &items)
+}
+
+// Writes the counters of connections.
+fn write_connections<W: Write>(output: &mut W, counts: &[u64; COUNTERS]) -> io::Result<()>
+    ensures { OnOk result (Appends (W.contents output.old) (W.contents output.new)
+        (connections_text counts.now)) }
+{
+    write_closed(output, counts)?;
+    write_refused(output, counts)?;
+    write_totals(output, counts)
 }
 
 /// Appends the status page. It shows the metrics and the first [`MAX_ROWS`] of `rows`; the caller
@@ -218,13 +289,15 @@ pub fn write_page<W: Write>(
     output: &mut W,
     metrics: &Metrics,
     rows: &[SessionRow],
-) -> io::Result<()> {
+) -> io::Result<()>
+    ensures { OnOk result (Appends (W.contents output.old) (W.contents output.new)
+        (page_text metrics.now rows.now)) }
+{
     writeln!(output, "{HEAD}")?;
     write_gauges(output, metrics.gauges())?;
     write_messages(output, metrics.counts())?;
-    writeln!(output, "{SESSIONS}")?;
-    write_rows(output, &rows[..rows.len().min(MAX_ROWS)])?;
-    writeln!(output, "</table></div>")?;
+    write_missed(output, metrics.counts())?;
+    write_sessions(output, &rows[..rows.len().min(MAX_ROWS)])?;
     write_connections(output, metrics.counts())?;
     writeln!(output, "</main>")
 }

@@ -3,7 +3,7 @@
 ghost use Rattle.std.specs.Prelude.{◌++◌, ◌<◌, codes, OnOk};
 ghost use Rattle.std.specs.Io.KnownBytes.{Appends};
 ghost use Rattle.std.specs.List.{flat_map};
-ghost use Rattle.mq_status.specs.Prometheus.{by_qos_text, closed_text, gauges_text, head_text, memory_text, messages_text, missed_text, refused_text, rounds_text, sample_text, seconds_text, sessions_text, single_text, traffic_text, wills_text};
+ghost use Rattle.mq_status.specs.Prometheus.{by_qos_text, closed_text, counters_text, gauges_text, head_text, memory_text, messages_text, missed_text, prometheus_text, refused_text, rounds_text, sample_text, seconds_text, sessions_text, single_text, traffic_text, wills_text};
 
 use crate::counter::COUNTERS;
 use crate::metrics::{Gauges, Metrics};
@@ -149,6 +149,7 @@ fn write_closed<W: Write>(output: &mut W, counts: &[u64; COUNTERS]) -> io::Resul
         Sample("C10", counts[23]),
         Sample("C11", counts[24]),
         Sample("C12", counts[25]),
+        Sample("C13", counts[26]),
     ];
     let (name, help) = (
         "mqtt_connections_closed_total",
@@ -163,11 +164,11 @@ fn write_refused<W: Write>(output: &mut W, counts: &[u64; COUNTERS]) -> io::Resu
         (refused_text counts.now)) }
 {
     let samples = [
-        Sample("1", counts[26]),
-        Sample("2", counts[27]),
-        Sample("3", counts[28]),
-        Sample("4", counts[29]),
-        Sample("5", counts[30]),
+        Sample("1", counts[27]),
+        Sample("2", counts[28]),
+        Sample("3", counts[29]),
+        Sample("4", counts[30]),
+        Sample("5", counts[31]),
     ];
     let help = "CONNECT packets refused, by return code.";
     write_family(
@@ -190,7 +191,7 @@ fn write_sessions<W: Write>(output: &mut W, counts: &[u64; COUNTERS]) -> io::Res
         "mqtt_connects_accepted_total",
         help,
         "counter",
-        counts[31],
+        counts[32],
     )?;
     let help = "Sessions removed.";
     write_single(
@@ -198,17 +199,17 @@ fn write_sessions<W: Write>(output: &mut W, counts: &[u64; COUNTERS]) -> io::Res
         "mqtt_sessions_ended_total",
         help,
         "counter",
-        counts[32],
+        counts[33],
     )?;
     let help = "Subscriptions stored.";
-    write_single(output, "mqtt_subscribes_total", help, "counter", counts[33])?;
+    write_single(output, "mqtt_subscribes_total", help, "counter", counts[34])?;
     let help = "Subscriptions removed by UNSUBSCRIBE.";
     write_single(
         output,
         "mqtt_unsubscribes_total",
         help,
         "counter",
-        counts[34],
+        counts[35],
     )
 }
 
@@ -218,14 +219,14 @@ fn write_wills<W: Write>(output: &mut W, counts: &[u64; COUNTERS]) -> io::Result
         (wills_text counts.now)) }
 {
     let help = "Wills published.";
-    write_single(output, "mqtt_wills_total", help, "counter", counts[35])?;
+    write_single(output, "mqtt_wills_total", help, "counter", counts[36])?;
     let help = "Wills dropped.";
     write_single(
         output,
         "mqtt_wills_dropped_total",
         help,
         "counter",
-        counts[36],
+        counts[37],
     )
 }
 
@@ -235,14 +236,14 @@ fn write_traffic<W: Write>(output: &mut W, counts: &[u64; COUNTERS]) -> io::Resu
         (traffic_text counts.now)) }
 {
     let help = "Bytes read from connections.";
-    write_single(output, "mqtt_bytes_read_total", help, "counter", counts[37])?;
+    write_single(output, "mqtt_bytes_read_total", help, "counter", counts[38])?;
     let help = "Bytes written to connections.";
     write_single(
         output,
         "mqtt_bytes_written_total",
         help,
         "counter",
-        counts[38],
+        counts[39],
     )?;
     let help = "Connections closed at once because there were too many.";
     write_single(
@@ -250,7 +251,7 @@ fn write_traffic<W: Write>(output: &mut W, counts: &[u64; COUNTERS]) -> io::Resu
         "mqtt_connections_turned_away_total",
         help,
         "counter",
-        counts[39],
+        counts[40],
     )
 }
 
@@ -271,8 +272,8 @@ fn write_rounds<W: Write>(output: &mut W, counts: &[u64; COUNTERS]) -> io::Resul
 {
     let help = "Time of the event loop's rounds, without waiting.";
     write_head(output, "mqtt_round_seconds", help, "summary")?;
-    write_seconds(output, counts[41])?;
-    let rounds = counts[40];
+    write_seconds(output, counts[42])?;
+    let rounds = counts[41];
     writeln!(output, "mqtt_round_seconds_count {rounds}")
 }
 
@@ -333,7 +334,10 @@ fn write_memory<W: Write>(output: &mut W, gauges: Gauges) -> io::Result<()>
 }
 
 // Writes the counters.
-fn write_counters<W: Write>(output: &mut W, counts: &[u64; COUNTERS]) -> io::Result<()> {
+fn write_counters<W: Write>(output: &mut W, counts: &[u64; COUNTERS]) -> io::Result<()>
+    ensures { OnOk result (Appends (W.contents output.old) (W.contents output.new)
+        (counters_text counts.now)) }
+{
     write_messages(output, counts)?;
     write_missed(output, counts)?;
     write_closed(output, counts)?;
@@ -345,7 +349,10 @@ fn write_counters<W: Write>(output: &mut W, counts: &[u64; COUNTERS]) -> io::Res
 }
 
 /// Appends the metrics in the text format of Prometheus, version 0.0.4.
-pub fn write_prometheus<W: Write>(output: &mut W, metrics: &Metrics) -> io::Result<()> {
+pub fn write_prometheus<W: Write>(output: &mut W, metrics: &Metrics) -> io::Result<()>
+    ensures { OnOk result (Appends (W.contents output.old) (W.contents output.new)
+        (prometheus_text metrics.now)) }
+{
     write_gauges(output, metrics.gauges())?;
     write_memory(output, metrics.gauges())?;
     write_counters(output, metrics.counts())

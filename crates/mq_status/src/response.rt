@@ -1,7 +1,8 @@
 //! Responses.
 
-ghost use Rattle.std.specs.Prelude.{◌≡◌};
-ghost use Rattle.mq_status.specs.Response.{content_type, status_lines};
+ghost use Rattle.std.specs.Prelude.{◌≡◌, IfOk, OnOk};
+ghost use Rattle.std.specs.Io.KnownBytes.{Appends};
+ghost use Rattle.mq_status.specs.Response.{body_text, content_type, head_lines, response_text, status_lines};
 
 use crate::http::{Reply, Resource, Status};
 use crate::metrics::Metrics;
@@ -17,7 +18,9 @@ fn body_of(
     status: Status,
     metrics: &Metrics,
     rows: &[SessionRow],
-) -> io::Result<Vec<u8>> {
+) -> io::Result<Vec<u8>>
+    ensures { IfOk result (λ body. body.items ≡ body_text status metrics.now rows.now) }
+{
     let mut body = Vec::new(alloc);
     match status {
         Status::Ok(Resource::Page) => write_page(&mut body, metrics, rows)?,
@@ -53,15 +56,15 @@ fn content_type(status: Status) -> &'static str
 }
 
 // Writes the head of a response whose body has this length.
-fn write_head<W: Write>(output: &mut W, status: Status, length: usize) -> io::Result<()> {
+fn write_head<W: Write>(output: &mut W, status: Status, length: usize) -> io::Result<()>
+    ensures { OnOk result (Appends (W.contents output.old) (W.contents output.new)
+        (head_lines status length)) }
+{
     let (lines, kind) = (status_lines(status), content_type(status));
     write!(
         output,
-        "HTTP/1.1 {lines}\r\nContent-Type: {kind}\r\nContent-Length: {length}\r\n"
-    )?;
-    write!(
-        output,
-        "Cache-Control: no-store\r\nConnection: close\r\n\r\n"
+        "HTTP/1.1 {lines}\r\nContent-Type: {kind}\r\nContent-Length: {length}\r\n\
+        Cache-Control: no-store\r\nConnection: close\r\n\r\n"
     )
 }
 
@@ -73,7 +76,10 @@ pub fn write_response<W: Write>(
     reply: Reply,
     metrics: &Metrics,
     rows: &[SessionRow],
-) -> io::Result<()> {
+) -> io::Result<()>
+    ensures { OnOk result (Appends (W.contents output.old) (W.contents output.new)
+        (response_text reply metrics.now rows.now)) }
+{
     let body = body_of(alloc, reply.status, metrics, rows)?;
     write_head(output, reply.status, body.len())?;
     if reply.head_only {

@@ -67,6 +67,7 @@ mqtt_connections_closed_total{code=\"C9\"} 0
 mqtt_connections_closed_total{code=\"C10\"} 2
 mqtt_connections_closed_total{code=\"C11\"} 0
 mqtt_connections_closed_total{code=\"C12\"} 0
+mqtt_connections_closed_total{code=\"C13\"} 0
 # HELP mqtt_connects_refused_total CONNECT packets refused, by return code.
 # TYPE mqtt_connects_refused_total counter
 mqtt_connects_refused_total{code=\"1\"} 0

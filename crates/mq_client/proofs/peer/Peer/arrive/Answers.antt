@@ -14,4 +14,4 @@ returns-in-Some-clause-ok g c = rw (← c.self.view_is) (c.in-Some.ensures.read 
 pub returns-in-None-clause-went : goal.returns-in-None-clause-went
 returns-in-None-clause-went g c =
     let kept = c.in-None.ensures.read (g.S.Stream.coming c.self.inside.stream) (g.S.Stream.coming c.read.new.self) c.read.new.buffer c.read.ensures.comes in
-    rw (← c.self.view_is) (went_then _ _ _ [] [] [] [] [] [] (stays _ _ _ _ _ _ _ _ _ _ kept c.read.ensures.written (Holds-nil _)) c.lose-in-None.ensures.went)
+    rw (← c.self.view_is) (went_then _ _ _ [] [] [] [] [] [] (stays _ _ _ _ _ _ _ _ _ _ kept c.read.ensures.written (Holds-nil _) refl) c.lose-in-None.ensures.went)

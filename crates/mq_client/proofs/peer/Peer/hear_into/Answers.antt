@@ -8,7 +8,7 @@ returns-in_err-count-clause-lost g c = on_err _ _ (went_then _ _ _ [] [] [] [] [
 pub returns-clause-went : goal.returns-clause-went
 returns-clause-went g c =
     let nothing = c.receive-progress.ensures.nothing in
-    took _ _ _ _ _ _ _ _ _ _ _ _ _ _ c.in_ok-now.ensures.ok c.in_ok-count.ensures.same (c.in_ok-count.ensures.ok).1 c.in_ok-count.ensures.written c.in_ok-count.ensures.kept c.in_ok-count.ensures.times c.self.view_is
+    took _ _ _ _ _ _ _ _ _ _ _ _ _ _ c.in_ok-now.ensures.ok c.in_ok-count.ensures.same (c.in_ok-count.ensures.ok).1 c.in_ok-count.ensures.written c.in_ok-count.ensures.kept c.in_ok-count.ensures.times c.in_ok-count.ensures.limit c.self.view_is
     (record { acknowledged = c.receive-progress.result.acknowledged; live = c.receive-progress.ensures.open; shut = λ q. (c.receive-progress.ensures.closed q, (nothing q).0, (nothing q).2) })
 
 pub returns-clause-silent : goal.returns-clause-silent

@@ -4,7 +4,7 @@ use Rattle.mq_client.proofs.Courses.{starved}
 use Rattle.mq_client.proofs.peer.Peer.tick.Goals as goal
 
 pub returns-clause-ok : goal.returns-clause-ok
-returns-clause-ok g c = rw (← c.self.view_is) (record { ticks = c.in_ok-tick.ensures.ok; coming = refl; written = refl; kept = refl; clock = c.now-now.ensures })
+returns-clause-ok g c = rw (← c.self.view_is) (record { ticks = c.in_ok-tick.ensures.ok; coming = refl; written = refl; kept = refl; clock = c.now-now.ensures; line = refl })
 
 pub returns-in_err-tick-clause-err : goal.returns-in_err-tick-clause-err
 returns-in_err-tick-clause-err g c =

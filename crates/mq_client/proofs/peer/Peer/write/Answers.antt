@@ -12,4 +12,4 @@ pub returns-clause-went : goal.returns-clause-went
 returns-clause-went g c = rw (← c.self.view_is) (broke _ _ _ _ _ _ _ _ _ _ _ _ c.take_all_output-bytes.ensures.bytes c.take_all_output-bytes.ensures.left c.in-Err-write_all.ensures.coming (subst (λ z. AppendsFront (g.S.Stream.written c.self.inside.stream) (g.S.Stream.written c.write_all.new.self) z) c.as_slice.ensures c.in-Err-write_all.ensures.err) c.in_default.ensures.ok c.dropped.ensures.end c.dropped.ensures.output c.dropped.ensures.held)
 
 pub returns-in-Err-clause-went : goal.returns-in-Err-clause-went
-returns-in-Err-clause-went g c = rw (← c.self.view_is) (stays _ _ _ _ _ _ _ _ _ _ (Keeps-refl _) (Keeps-refl _) c.in-Err.ensures.err)
+returns-in-Err-clause-went g c = rw (← c.self.view_is) (stays _ _ _ _ _ _ _ _ _ _ (Keeps-refl _) (Keeps-refl _) c.in-Err.ensures.err refl)

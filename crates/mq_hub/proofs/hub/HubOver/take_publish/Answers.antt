@@ -1,9 +1,10 @@
-use Rattle.std.proofs.Common.{true≢false, ap, sym, ◌∙◌}
+use Rattle.std.proofs.Common.{true, true≢false, ap, sym, ◌∙◌}
 use Rattle.mq_end.specs.declared.reason.CloseReason.TheVariants.{Window}
 use Rattle.mq_route.specs.declared.close.HubClose.TheVariants.{Own}
 use Rattle.mq_route.specs.Hub.{is_open}
 use Rattle.mq_hub.proofs.PublishClass.{unfit_goes, up_by}
 use Rattle.mq_hub.proofs.KeptState.{goes_shut}
+use Rattle.mq_hub.proofs.LastActivity.{on_ok}
 use Rattle.mq_hub.proofs.hub.HubOver.take_publish.Goals as goal
 
 pub reception-requires : goal.reception-requires
@@ -26,3 +27,7 @@ pub returns-in-WindowFull-clause-room : goal.returns-in-WindowFull-clause-room
 returns-in-WindowFull-clause-room g c = λ stays.
     absurd (true≢false (sym stays ∙ ap is_open (goes_shut c.args.conn (Own Window) c.close.ensures.goes.0 c.args.self.now c.close.new.self
     c.args.log.now.acts c.close.new.log.acts c.close.ensures.goes.1)))
+
+pub returns-in-Duplicate-clause-goes : goal.returns-in-Duplicate-clause-goes
+returns-in-Duplicate-clause-goes g c =
+    on_ok c.take_silent.result (λ each. (true, each c.args.conn true c.args.log.now.acts)) c.take_silent.ensures.goes
