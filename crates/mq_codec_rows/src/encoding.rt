@@ -6,8 +6,8 @@ use crate::words::Words;
 use crate::wrong::Wrong;
 use bytes::Bytes;
 use mq_packet::{
-    Binary, Connect, EncodeError, Message, Packet, Payload, Publish, WriteError, encode_into,
-    encode_publish_into, encoded_len, write_packet,
+    Binary, Connect, EncodeError, Message, Packet, PacketId, Payload, Publish, RefusalCode,
+    SubAckCode, WriteError, encode_into, encode_publish_into, encoded_len, write_packet,
 };
 use mq_topic::{Qos, TopicName};
 use std::alloc::{AllocError, Global};
@@ -215,6 +215,30 @@ fn write(alloc: Global, words: &mut Words<'_>, told: &mut String) -> Result<(), 
         is_interrupted: false,
     };
     add_written(alloc, &packet, &mut narrow, told)
+}
+
+/// `refusal NUMBER`: the code of a refusal with it, and its number.
+pub(crate) fn refusal(words: &mut Words<'_>, told: &mut String) -> Result<(), Wrong> {
+    match RefusalCode::from_number(words.byte()?) {
+        Some(code) => Ok(write!(told, "{code:?} {}", code.number())?),
+        None => Ok(told.push_str("none")?),
+    }
+}
+
+/// `suback NUMBER`: the code of a SUBACK with it, and its number.
+pub(crate) fn sub_ack_code(words: &mut Words<'_>, told: &mut String) -> Result<(), Wrong> {
+    match SubAckCode::from_number(words.byte()?) {
+        Some(code) => Ok(write!(told, "{code:?} {}", code.number())?),
+        None => Ok(told.push_str("none")?),
+    }
+}
+
+/// `id NUMBER`: the identifier with it.
+pub(crate) fn id(words: &mut Words<'_>, told: &mut String) -> Result<(), Wrong> {
+    match PacketId::new(words.short()?) {
+        Some(id) => Ok(write!(told, "{}", id.get())?),
+        None => Ok(told.push_str("none")?),
+    }
 }
 
 /// The acts of encoded packets.

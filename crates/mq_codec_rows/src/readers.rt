@@ -181,20 +181,24 @@ pub(crate) fn failing(
     let mut packets = Vec::new(alloc);
     let kind = read_up_to_error(alloc, limits, &mut reader, &mut packets)?;
     write!(told, "{kind:?} {}", packets.len())?;
-    check_front(alloc, packets.as_slice(), bytes.as_slice())
+    add_if_other(alloc, packets.as_slice(), bytes.as_slice(), told)
 }
 
-// Fails if the packets are not encoded as the front of the bytes.
-fn check_front(alloc: Global, packets: &[Packet], bytes: &[u8]) -> Result<(), Wrong> {
+// Adds a mark unless the packets are encoded as the front of the bytes.
+fn add_if_other(
+    alloc: Global,
+    packets: &[Packet],
+    bytes: &[u8],
+    told: &mut String,
+) -> Result<(), Wrong> {
     let mut out = Vec::new(alloc);
     for packet in packets {
         encode_into(packet, &mut out)?;
     }
-    if bytes.starts_with(out.as_slice()) {
-        Ok(())
-    } else {
-        Err(Wrong::Bytes)
+    if !bytes.starts_with(out.as_slice()) {
+        told.push_str(", other packets")?;
     }
+    Ok(())
 }
 
 /// `sizes BYTES`: the size of each packet of a reader.

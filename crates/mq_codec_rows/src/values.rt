@@ -4,35 +4,10 @@ use crate::words::Words;
 use crate::wrong::Wrong;
 use crate::{encoding, topics, wire};
 use mq_decode::{DecodeError, DecodeFault, FaultKind, ReadError};
-use mq_packet::{PacketId, RefusalCode, SubAckCode};
 use std::alloc::{AllocError, Global};
 use std::fmt::Display;
 use std::io;
 use std::io::ErrorKind;
-
-// `refusal NUMBER`: the code of a refusal with it, and its number.
-fn refusal(words: &mut Words<'_>, told: &mut String) -> Result<(), Wrong> {
-    match RefusalCode::from_number(words.byte()?) {
-        Some(code) => Ok(write!(told, "{code:?} {}", code.number())?),
-        None => Ok(told.push_str("none")?),
-    }
-}
-
-// `suback NUMBER`: the code of a SUBACK with it, and its number.
-fn sub_ack_code(words: &mut Words<'_>, told: &mut String) -> Result<(), Wrong> {
-    match SubAckCode::from_number(words.byte()?) {
-        Some(code) => Ok(write!(told, "{code:?} {}", code.number())?),
-        None => Ok(told.push_str("none")?),
-    }
-}
-
-// `id NUMBER`: the identifier with it.
-fn id(words: &mut Words<'_>, told: &mut String) -> Result<(), Wrong> {
-    match PacketId::new(words.short()?) {
-        Some(id) => Ok(write!(told, "{}", id.get())?),
-        None => Ok(told.push_str("none")?),
-    }
-}
 
 static KINDS: [FaultKind; 20] = [
     FaultKind::ForbiddenType,
@@ -109,9 +84,9 @@ fn tell_numbers(act: &str, words: &mut Words<'_>, told: &mut String) -> Result<(
         "qos" => topics::qos(words, told),
         "greater" => topics::greater(words, told),
         "topic-fault" => topics::fault(words, told),
-        "refusal" => refusal(words, told),
-        "suback" => sub_ack_code(words, told),
-        "id" => id(words, told),
+        "refusal" => encoding::refusal(words, told),
+        "suback" => encoding::sub_ack_code(words, told),
+        "id" => encoding::id(words, told),
         "kind" => kind(words, told),
         "limits" => limits(words, told),
         "decode-error" => decode_error(words, told),
