@@ -62,9 +62,9 @@ impl<S: FilterStore> HubOver<S> {
         )
     }
 
-    // Handles a SUBSCRIBE that is not too broad. If the session has too few free identifiers for the
-    // retained messages (2.3.1), the ones without room are missed, or the connection is closed, as
-    // the configuration says.
+    // Handles a SUBSCRIBE that is not too broad. If the session has too few free identifiers for
+    // the retained messages (2.3.1), the ones without room are missed, or the connection is closed,
+    // as the configuration says.
     fn take_narrow(
         &mut self,
         conn: Conn,
