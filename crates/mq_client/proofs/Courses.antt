@@ -118,11 +118,11 @@ abbrev pub emptied : ClientState → ClientState
 emptied a = record a { link = record a.link { output = []; room = no_bytes a.link.room } }
 
 -- the session was saved, and the whole output was written
-pub wrote : (a b : ClientState) (k j w v h i t : Option (List ℕ)) (q : Line) (bytes : List ℕ) → bytes ≡ a.link.output → b ≡ emptied a → Keeps k j → Appends w v bytes
-    → Holds h i (saved_of a ∷ []) → Went (at a k w h t q) (at b j v i t q) [] [] []
-wrote a b k j w v h i t q bytes same left keeps goes holds =
-    went_step (Write (saved_of a) bytes) (at a k w h t q) (at b j v i t q) (record { saved = refl; rest = []; parts = sym same ∙ sym (append-nil bytes); left = ap (λ c. c.link) left })
-    (Consumes-kept k k j [] (Consumes-nil k) keeps) goes holds (Appends-nil t) refl
+pub wrote : (a b : ClientState) (k j w v h i t : Option (List ℕ)) (q r : Line) (bytes : List ℕ) → r.limit ≡ q.limit → bytes ≡ a.link.output → b ≡ emptied a → Keeps k j → Appends w v bytes
+    → Holds h i (saved_of a ∷ []) → Went (at a k w h t q) (at b j v i t r) [] [] []
+wrote a b k j w v h i t q r bytes limit same left keeps goes holds =
+    went_step (Write (saved_of a) bytes) (at a k w h t q) (at b j v i t r) (record { saved = refl; rest = []; parts = sym same ∙ sym (append-nil bytes); left = ap (λ c. c.link) left })
+    (Consumes-kept k k j [] (Consumes-nil k) keeps) goes holds (Appends-nil t) limit
 
 -- the connection was lost
 pub lost : (a b : ClientState) (k j w v h t : Option (List ℕ)) (q : Line) → b.link.end ≡ over a.link.end → b.link.output ≡ [] → b.link.held ≡ [] → Keeps k j → Keeps w v
@@ -132,15 +132,15 @@ lost a b k j w v h t q end output held keeps stays =
     (Consumes-kept k k j [] (Consumes-nil k) keeps) (Appends-kept w w v [] (Appends-nil w) stays) (Holds-nil h) (Appends-nil t) refl
 
 -- the session was saved, a front of the output was written, and then the connection was lost
-pub broke : (a b c : ClientState) (k j w v h i t : Option (List ℕ)) (q : Line) (bytes : List ℕ) → bytes ≡ a.link.output → b ≡ emptied a → Keeps k j → AppendsFront w v bytes
-    → Holds h i (saved_of a ∷ []) → c.link.end ≡ over b.link.end → c.link.output ≡ [] → c.link.held ≡ [] → Went (at a k w h t q) (at c j v i t q) [] [] []
-broke a b c k j w v h i t q bytes same left keeps goes holds end output held =
+pub broke : (a b c : ClientState) (k j w v h i t : Option (List ℕ)) (q r : Line) (bytes : List ℕ) → r.limit ≡ q.limit → bytes ≡ a.link.output → b ≡ emptied a → Keeps k j → AppendsFront w v bytes
+    → Holds h i (saved_of a ∷ []) → c.link.end ≡ over b.link.end → c.link.output ≡ [] → c.link.held ≡ [] → Went (at a k w h t q) (at c j v i t r) [] [] []
+broke a b c k j w v h i t q r bytes limit same left keeps goes holds end output held =
     let m : ClientState = record a { link = record a.link { output = goes.rest; room = no_bytes a.link.room } } in
-    let first : Went (at a k w h t q) (at m j v i t q) [] [] [] =
-    went_step (Write (saved_of a) goes.front) (at a k w h t q) (at m j v i t q) (record { saved = refl; rest = goes.rest; parts = sym same ∙ goes.parts; left = refl })
-    (Consumes-kept k k j [] (Consumes-nil k) keeps) goes.appends holds (Appends-nil t) refl in
-    let second : Went (at m j v i t q) (at c j v i t q) [] [] [] =
-    went_step Lose (at m j v i t q) (at c j v i t q) (record { end = end ∙ ap (λ x. over x.link.end) left; output = output; held = held })
+    let first : Went (at a k w h t q) (at m j v i t r) [] [] [] =
+    went_step (Write (saved_of a) goes.front) (at a k w h t q) (at m j v i t r) (record { saved = refl; rest = goes.rest; parts = sym same ∙ goes.parts; left = refl })
+    (Consumes-kept k k j [] (Consumes-nil k) keeps) goes.appends holds (Appends-nil t) limit in
+    let second : Went (at m j v i t r) (at c j v i t r) [] [] [] =
+    went_step Lose (at m j v i t r) (at c j v i t r) (record { end = end ∙ ap (λ x. over x.link.end) left; output = output; held = held })
     (Consumes-nil j) (Appends-nil v) (Holds-nil i) (Appends-nil t) refl in
     went_then _ _ _ [] [] [] [] [] [] first second
 

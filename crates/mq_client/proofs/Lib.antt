@@ -7,3 +7,4 @@ pub mod Gathers
 pub mod Collects
 pub mod Resumed
 pub mod Wholes
+pub mod LinkNames

@@ -1,4 +1,4 @@
-use Rattle.std.proofs.Common.{[]}
+use Rattle.std.proofs.Common.{[], refl}
 use Rattle.mq_client.proofs.Courses.{Holds-nil, stays, went_then}
 use Rattle.mq_client.proofs.peer.Peer.arrive.Goals as goal
 
