@@ -1,5 +1,6 @@
 -- A broker with a journal, or without one.
 use Rattle.std.specs.Prelude.{◌≡◌, ◌≢◌, ◌⊎◌, ◌↔◌, ℕ, Option, Some, None}
+use Rattle.mq_cli.specs.declared.broker.Broker.{Broker}
 use Rattle.mq_cli.specs.declared.broker.DataFolder.{DataFolder}
 use Rattle.mq_cli.specs.declared.broker.Durability.{Durability}
 use Rattle.mq_cli.specs.declared.broker.Durability.TheVariants as failures
@@ -12,7 +13,7 @@ use Rattle.mq_broker.specs.declared.end.BrokerEnd.{BrokerEnd}
 use Rattle.mq_broker.specs.declared.end.BrokerEnd.TheVariants as ends
 use Rattle.mq_broker.specs.declared.options.BrokerOptions.{BrokerOptions}
 use Rattle.mq_route.specs.Hub.{new_hub}
-use Rattle.mq_programs.specs.Options.{start_status}
+use Rattle.mq_programs.specs.Options.{AreOptionsOf, start_status}
 use Rattle.mq_programs.specs.declared.broker.StartError.{StartError}
 use Rattle.mq_programs.specs.declared.kept.Ready.{Ready}
 use Rattle.mq_programs.specs.declared.kept.Ready.TheVariants.{Kept, Plain}
@@ -34,13 +35,14 @@ abbrev pub MayEnd : Ready → BrokerEnd → Type 0
 MayEnd (Plain options) end = (end ≡ ends.PacketLimit) ↔ ¬ (IsPacketLimit options.max_packet)
 MayEnd (Kept broker) end = end ≢ ends.PacketLimit
 
--- a broker with some options was ready, and ran to this end
-abbrev pub IsEnded : Option DataFolder → BrokerEnd → Type 0
-IsEnded journal end =
-    (options : BrokerOptions) × (broker : Ready) × IsReady journal options broker × MayEnd broker end
+-- a broker with the options of the arguments was ready, and ran to this end
+abbrev pub IsEnded : Broker → BrokerEnd → Type 0
+IsEnded words end =
+    (options : BrokerOptions) × (broker : Ready) × AreOptionsOf words options
+    × IsReady words.journal options broker × MayEnd broker end
 
 -- the exit status: that of the error that prevented the start, or of the end
-abbrev pub IsBrokerStatus : Option DataFolder → ℕ → Type 0
-IsBrokerStatus journal status =
+abbrev pub IsBrokerStatus : Broker → ℕ → Type 0
+IsBrokerStatus words status =
     ((error : StartError) × (status ≡ start_status error))
-    ⊎ ((end : BrokerEnd) × IsEnded journal end × (status ≡ end_status end))
+    ⊎ ((end : BrokerEnd) × IsEnded words end × (status ≡ end_status end))

@@ -1,8 +1,8 @@
 //! The command `broker`.
 
-ghost use Rattle.std.specs.Prelude.{◌≡◌, ◌*◌, option_map, IfOk};
+ghost use Rattle.std.specs.Prelude.{◌≡◌, IfOk};
 ghost use Rattle.mq_programs.specs.Kept.{IsBrokerStatus, IsEnded, IsReady, MayEnd};
-ghost use Rattle.mq_programs.specs.Options.{start_status, when_full_of};
+ghost use Rattle.mq_programs.specs.Options.{AreOptionsOf, milliseconds, start_status, when_full_of};
 
 use crate::kept::{Ready, recover};
 use mq_broker::{BrokerEnd, BrokerOptions, Log, LogLevel, OpenError};
@@ -116,7 +116,7 @@ fn when_full_of(choice: OnFull) -> WhenFull
 
 // The milliseconds of seconds.
 fn milliseconds_of(seconds: Option<u32>) -> Option<u64>
-    ensures { result ≡ option_map (λ count. count * 1000) seconds }
+    ensures { result ≡ milliseconds seconds }
 {
     match seconds {
         Some(seconds) => Some(u64::from(seconds) * 1_000),
@@ -132,18 +132,7 @@ fn open_options(
 ) -> BrokerOptions
     ensures listen { result.listen ≡ listen }
     ensures metrics { result.metrics ≡ metrics }
-    ensures connections { result.max_connections ≡ words.now.max_connections }
-    ensures sessions { result.max_sessions ≡ words.now.max_sessions }
-    ensures packet { result.max_packet ≡ words.now.max_packet }
-    ensures capacity { result.capacity ≡ words.now.capacity }
-    ensures stored { result.max_stored ≡ words.now.max_stored }
-    ensures waiting { result.max_waiting ≡ words.now.max_waiting }
-    ensures matches { result.max_matches ≡ words.now.max_matches }
-    ensures session_expiry { result.session_expiry
-        ≡ option_map (λ seconds. seconds * 1000) words.now.session_expiry }
-    ensures when_full { result.when_full ≡ when_full_of words.now.when_full }
-    ensures connect_within { result.connect_within
-        ≡ option_map (λ seconds. seconds * 1000) words.now.connect_within }
+    ensures limits { AreOptionsOf words.now result }
     ensures users { (result.users ≡ None) × (result.hashed_users ≡ None) }
 {
     BrokerOptions {
@@ -169,7 +158,9 @@ fn options_of<'a, R: Files<File = File>>(
     rt: &R,
     alloc: Global,
     words: &Broker<'a>,
-) -> Result<BrokerOptions, StartError<'a>> {
+) -> Result<BrokerOptions, StartError<'a>>
+    ensures { IfOk result (AreOptionsOf words.now) }
+{
     let listen = address_of(words.listen.unwrap_or(LISTEN))?;
     let metrics = match words.metrics {
         Some(text) => Some(address_of(text)?),
@@ -262,7 +253,7 @@ where
     R: Net + Clock + Files<File = File>,
     W: Write,
     E: Write + Drop,
-    ensures { IfOk result (IsEnded words.now.journal) }
+    ensures { IfOk result (IsEnded words.now) }
 {
     let options = options_of(rt, alloc, words)?;
     let file = log_file(rt, words.log)?;
@@ -305,7 +296,7 @@ where
     R: Net + Clock + Files<File = File>,
     W: Write,
     E: Write + Drop,
-    ensures { IsBrokerStatus words.now.journal result }
+    ensures { IsBrokerStatus words.now result }
 {
     match run_to_end(rt, alloc, words, output, &mut errors) {
         Ok(end) => {
