@@ -9,7 +9,13 @@ use Rattle.mq_serve.specs.Pending.{Sends, WritesFront}
 -- nothing is behind an empty front
 pub empty_if : (front later : List ℕ) → (front ≡ [] → later ≡ []) → IsTrue (length front == 0) ↔ (front ++ later ≡ [])
 empty_if [] later whole = ((λ is. whole refl), (λ is. refl))
-empty_if (x ∷ front) later whole = ((λ is. cc), (λ is. cc))
+empty_if (x ∷ front) later whole = ((λ is. absurd (no_zero (length front) is)), (λ is. absurd (no_cons x (front ++ later) is)))
+  where
+    no_zero : (n : ℕ) → IsTrue (suc n == 0) → ⊥
+    no_zero n is = cc
+
+    no_cons : (y : ℕ) (ys : List ℕ) → y ∷ ys ≡ [] → ⊥
+    no_cons y ys is = cc
 
 drop-append-le : (n : ℕ) (xs ys : List ℕ) → n ≤ length xs → drop n (xs ++ ys) ≡ drop n xs ++ ys
 drop-append-le zero xs ys low = refl
