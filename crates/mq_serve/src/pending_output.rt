@@ -1,6 +1,6 @@
 //! Output that a connection did not take yet.
 
-ghost use Rattle.std.specs.Prelude.{◌≡◌, ◌↔◌, ◌++◌, IsTrue, OnErr, OnOk, length, nat_lt};
+ghost use Rattle.std.specs.Prelude.{◌≡◌, ◌↔◌, ◌++◌, [], IsTrue, OnErr, OnOk, length, nat_lt};
 ghost use Rattle.mq_packet.specs.Writing.{AppendsFront};
 ghost use Rattle.mq_serve.specs.Pending.{Sends, WritesFront, bytes_of};
 

@@ -1,6 +1,6 @@
 //! Wakers of workers that are waiting at their connections.
 
-ghost use Rattle.std.specs.Prelude.{◌≡◌, ◌<◌, ℕ, IfOk, length, slice_index_or, vec_len};
+ghost use Rattle.std.specs.Prelude.{◌≡◌, ◌<◌, ℕ, length, slice_index_or};
 ghost use Rattle.mq_serve.specs.Wakers.{after_act, after_acts, call_if, must_wake, serves, uncalled, vacant};
 
 use crate::read_order::{ReadOrder, ReadSeat};
@@ -9,7 +9,6 @@ use mq_book::StepObserver;
 use mq_route::{Act, HubReply};
 use mq_topic::ClientKey;
 use std::alloc::{AllocError, Global};
-use std::marker::Model;
 use std::sync::{Mutex, Wait};
 
 // A worker: the client that it serves, and whether it must be woken.
@@ -32,20 +31,9 @@ pub struct Wakers {
     wakers: Vec<Waker>,
 }
 
-impl Model for Wakers {
-    ghost use Rattle.std.specs.Prelude.{ℕ, vec_len};
-
-    // the number of workers
-    ghost Value = { ℕ };
-
-    ghost view = { λ w. vec_len w.wakers };
-}
-
 impl Wakers {
     /// The wakers of workers, in the order of their numbers. No worker serves a client yet.
-    pub fn new(alloc: Global, wakers: Vec<Waker>) -> Result<Wakers, AllocError>
-        ensures { IfOk result (λ made. made ≡ vec_len wakers) }
-    {
+    pub fn new(alloc: Global, wakers: Vec<Waker>) -> Result<Wakers, AllocError> {
         let seats = vec![in alloc; VACANT; wakers.len()]?;
         let order = ReadOrder::new(alloc, wakers.len())?;
         Ok(Wakers {

@@ -6,3 +6,4 @@ mod Padded
 mod Safe
 mod Visible
 mod Written
+pub mod Texts
