@@ -1,5 +1,4 @@
 pub mod Configuration
 pub mod End
 pub mod Lines
-pub mod Missed
 pub mod Recovered

@@ -1,13 +1,9 @@
 //! The messages that clients missed.
 
-ghost use Rattle.std.specs.Prelude.{◌≡◌, ◌≢◌, ◌↔◌, [], IsTrue};
-ghost use Rattle.mq_broker.specs.Missed.{CountsAct, CountsOne, amount};
-
 use mq_route::Act;
 use mq_topic::ClientKey;
 use std::alloc::Global;
 use std::collections::BTreeMap;
-use std::marker::Model;
 use std::mem;
 
 /// The number of copies that each client missed, by session. A copy for which an allocation fails
@@ -21,33 +17,17 @@ pub(crate) struct Missed {
     unlogged: BTreeMap<ClientKey, u64>,
 }
 
-impl Model for Missed {
-    ghost use Rattle.mq_broker.specs.Missed.{Numbers};
-
-    ghost Value = { Numbers };
-
-    ghost view = { λ m. record { totals = m.totals.entries; unlogged = m.unlogged.entries } };
-}
-
-// The number of a client.
-fn amount(numbers: &BTreeMap<ClientKey, u64>, key: ClientKey) -> u64
-    ensures { result ≡ amount key numbers.now.entries }
-{
-    numbers.get(&key).copied().unwrap_or(0)
-}
-
 // Adds one to the number of a client.
-fn count(numbers: &mut BTreeMap<ClientKey, u64>, key: ClientKey)
-    ensures { CountsOne key numbers.old.entries numbers.new.entries }
-{
-    let number = amount(numbers, key).saturating_add(1);
-    let _ = numbers.insert(key, number);
+fn count(numbers: &mut BTreeMap<ClientKey, u64>, key: ClientKey) {
+    if let Some(number) = numbers.get_mut(&key) {
+        *number = number.saturating_add(1);
+        return;
+    }
+    let _ = numbers.insert(key, 1);
 }
 
 impl Missed {
-    pub(crate) fn new(alloc: Global) -> Missed
-        ensures { result ≡ record { totals = []; unlogged = [] } }
-    {
+    pub(crate) fn new(alloc: Global) -> Missed {
         Missed {
             alloc,
             totals: BTreeMap::new(alloc),
@@ -56,9 +36,7 @@ impl Missed {
     }
 
     /// Counts an act, if it is about a missed copy or a removed session.
-    pub(crate) fn count_act(&mut self, act: &Act)
-        ensures { CountsAct act.now self.old self.new }
-    {
+    pub(crate) fn count_act(&mut self, act: &Act) {
         match act {
             Act::Missed(key, _) => {
                 count(&mut self.totals, *key);
@@ -72,24 +50,17 @@ impl Missed {
     }
 
     /// The number of copies that the client of a session missed.
-    pub(crate) fn total(&self, key: ClientKey) -> u64
-        ensures { result ≡ amount key self.now.totals }
-    {
-        amount(&self.totals, key)
+    pub(crate) fn total(&self, key: ClientKey) -> u64 {
+        self.totals.get(&key).copied().unwrap_or(0)
     }
 
     /// Whether there are numbers that the log doesn't have yet.
-    pub(crate) fn has_unlogged(&self) -> bool
-        ensures { IsTrue result ↔ (self.now.unlogged ≢ []) }
-    {
+    pub(crate) fn has_unlogged(&self) -> bool {
         !self.unlogged.is_empty()
     }
 
     /// Takes the numbers that the log doesn't have yet.
-    pub(crate) fn take_unlogged(&mut self) -> BTreeMap<ClientKey, u64>
-        ensures taken { result.entries ≡ self.old.unlogged }
-        ensures left { self.new ≡ record self.old { unlogged = [] } }
-    {
+    pub(crate) fn take_unlogged(&mut self) -> BTreeMap<ClientKey, u64> {
         mem::replace(&mut self.unlogged, BTreeMap::new(self.alloc))
     }
 }

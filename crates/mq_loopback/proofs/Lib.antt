@@ -5,4 +5,3 @@ pub mod Unique
 pub mod Lines
 pub mod Collected
 pub mod Telling
-pub mod Runs

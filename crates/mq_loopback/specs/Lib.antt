@@ -4,5 +4,3 @@ pub mod Ordered
 pub mod Judged
 pub mod Printed
 pub mod Program
-pub mod Clients
-pub mod Barrier

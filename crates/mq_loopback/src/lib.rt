@@ -8,6 +8,7 @@
 mod client;
 mod client_run;
 mod client_threads;
+mod idle_limit;
 mod laws;
 mod print;
 mod program;
@@ -18,10 +19,13 @@ mod start_barrier;
 mod verdict;
 
 pub use crate::client::{Client, Collector, Publisher, Role};
+pub use crate::client_threads::{ClientStart, ClientThreads};
+pub use crate::idle_limit::IdleLimited;
 pub use crate::laws::file_laws;
 pub use crate::print::write_played;
 pub use crate::program::{loopback, loopback_file, print_result, run};
 pub use crate::read::{ClientsFault, read_clients};
 pub use crate::rig::{RunError, RunResult, play};
 pub use crate::sort::{all_ordered, ordered};
+pub use crate::start_barrier::StartBarrier;
 pub use crate::verdict::{Verdict, judge};

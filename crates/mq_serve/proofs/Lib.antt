@@ -2,4 +2,3 @@ pub mod Fronts
 pub mod Sends
 pub mod AuditedRuns
 pub mod Reports
-pub mod Pendings

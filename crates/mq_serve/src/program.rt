@@ -87,7 +87,6 @@ fn serve_all<R>(
 where
     R: Net + Threads + Wait + Clock + Sync,
     requires { (0 < options.workers) × (options.workers ≤ 64) }
-    ensures { IfOk result (λ names. (hub : HubState) × AreSessions hub names.items) }
 {
     let blank = Blank::new(u64::from(options.workers));
     serve_by::<Brand, R>(rt, alloc, blank, listener, options)

