@@ -53,14 +53,22 @@ fn add_read(
     Ok(read)
 }
 
-// Whether each proper prefix is held as an incomplete packet.
+// Whether bytes are an incomplete packet, which each way holds.
+fn is_held(alloc: Global, limits: Limits, bytes: &[u8]) -> bool {
+    let wanted = Outcome::held(bytes.len());
+    for way in WAYS {
+        if outcome_of(alloc, way, limits, &[bytes]) != wanted {
+            return false;
+        }
+    }
+    viewed(limits, bytes) == wanted
+}
+
+// Whether each proper prefix is held.
 fn waits(alloc: Global, limits: Limits, bytes: &[u8]) -> bool {
     for cut in 0..bytes.len() {
         let (front, _) = bytes.split_at(cut);
-        let wanted = Outcome::held(cut);
-        if viewed(limits, front) != wanted
-            || outcome_of(alloc, Way::Pieces, limits, &[front]) != wanted
-        {
+        if !is_held(alloc, limits, front) {
             return false;
         }
     }
@@ -114,6 +122,26 @@ fn reads_among_others(alloc: Global, limits: Limits, bytes: &[u8], read: Outcome
     true
 }
 
+// The bytes in pieces of this size.
+fn pieces_of(alloc: Global, bytes: &[u8], size: usize) -> Result<Vec<&[u8]>, Wrong> {
+    let mut pieces = Vec::new(alloc);
+    for piece in bytes.chunks(size.max(1)) {
+        pieces.push(piece)?;
+    }
+    Ok(pieces)
+}
+
+// Whether single bytes, each taken by `next_packet`, have this outcome.
+fn steps_through(
+    alloc: Global,
+    limits: Limits,
+    bytes: &[u8],
+    wanted: Outcome,
+) -> Result<bool, Wrong> {
+    let pieces = pieces_of(alloc, bytes, 1)?;
+    Ok(outcome_of(alloc, Way::Next, limits, pieces.as_slice()) == wanted)
+}
+
 // `last BYTES`: the outcome of bytes of which the last shows the fault or completes the packet. It
 // is the same byte by byte and between other packets.
 fn last(alloc: Global, limits: Limits, bytes: &[u8], told: &mut String) -> Result<(), Wrong> {
@@ -121,6 +149,8 @@ fn last(alloc: Global, limits: Limits, bytes: &[u8], told: &mut String) -> Resul
     check(told, waits(alloc, limits, bytes), ", not held")?;
     let by_bytes = by_bytes(alloc, limits, bytes);
     check(told, by_bytes == Some(read), ", other bytes")?;
+    let is_same = steps_through(alloc, limits, bytes, read)?;
+    check(told, is_same, ", other steps")?;
     let is_same = reads_among_others(alloc, limits, bytes, read);
     check(told, is_same, ", other packets")
 }
@@ -147,10 +177,7 @@ fn again_in_pieces(
     bytes: &[u8],
     size: usize,
 ) -> Result<bool, Wrong> {
-    let mut pieces = Vec::new(alloc);
-    for piece in bytes.chunks(size.max(1)) {
-        pieces.push(piece)?;
-    }
+    let pieces = pieces_of(alloc, bytes, size)?;
     read_again(alloc, way, limits, pieces.as_slice(), bytes)
 }
 
