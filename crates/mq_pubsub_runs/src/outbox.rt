@@ -144,7 +144,7 @@ impl Outbox {
         &mut self,
         peer: &mut Peer<S, C, K>,
     ) -> Result<bool, RunError>
-        ensures { Publishes peer.old peer.new self.old.next self.new.next
+        ensures published { Publishes peer.old peer.new self.old.next self.new.next
             self.old.unwritten self.new.unwritten }
         ensures lost { self.new.lost ≡ self.old.lost }
     {
