@@ -7,7 +7,6 @@
 //! On `Err` the receiver is unchanged unless stated otherwise.
 #![tactic(auto)]
 
-mod discard;
 mod network;
 mod outbox;
 mod packet_stream;
@@ -15,10 +14,11 @@ mod publisher;
 mod redial;
 mod stop;
 mod subscriber;
+mod visit;
 
-pub use crate::discard::discard;
 pub use crate::network::Network;
 pub use crate::outbox::Tally;
 pub use crate::packet_stream::PacketStream;
 pub use crate::publisher::{PublishOptions, Published, publish};
 pub use crate::subscriber::{Subscribed, subscribe};
+pub use crate::visit::discard;

@@ -183,7 +183,7 @@ fn publish_once<S: Stream + Drop, C: Clock + Drop, K: SessionSaver, N: Network<S
 }
 
 // The end of a run.
-fn published<K: SessionSaver>(
+fn end_of<K: SessionSaver>(
     sitting: Sitting<K>,
     outbox: &Outbox,
     end: Result<(), RunError>,
@@ -238,8 +238,8 @@ pub fn publish<S: Stream + Drop, C: Clock + Drop, K: SessionSaver, N: Network<S,
             Err(_) => sitting.end = Err(redial.missed()),
         }
         if let Some(end) = redial.next(sitting.end, false, network) {
-            return published(sitting, &outbox, end);
+            return end_of(sitting, &outbox, end);
         }
     }
-    published(sitting, &outbox, Err(RunError::Lost))
+    end_of(sitting, &outbox, Err(RunError::Lost))
 }

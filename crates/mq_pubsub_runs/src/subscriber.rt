@@ -254,7 +254,7 @@ fn renew<K: SessionSaver, P: Printer>(
 }
 
 // The end of a run.
-fn subscribed<K: SessionSaver>(
+fn end_of<K: SessionSaver>(
     sitting: Sitting<K>,
     inbox: Inbox,
     end: Result<(), RunError>,
@@ -319,9 +319,9 @@ pub fn subscribe<
             Err(_) => sitting.end = Err(redial.missed()),
         }
         if let Some(end) = redial.next(sitting.end, true, network) {
-            return subscribed(sitting, inbox, end);
+            return end_of(sitting, inbox, end);
         }
         sitting = renew(alloc, setup, sitting, &mut inbox, printer);
     }
-    subscribed(sitting, inbox, Err(RunError::Lost))
+    end_of(sitting, inbox, Err(RunError::Lost))
 }
