@@ -341,7 +341,6 @@ def _(room):
         ("sub", ["-p", refused, "-t", "a"]),
         ("sub", ["-t", "a", "-W", "1"]),
         ("sub", ["-t", "a", "-E"]),
-        ("sub", ["-t", "a", "-U", "b", "-E"]),
     ):
         errors = room.both(kind, options)
         if "-E" not in options and not errors.strip():
@@ -494,7 +493,7 @@ def _(room):
     same_subscribed(room, ["-t", "a", "-W", 2, "--quiet", "-q", 1], sent[:3], statuses=27)
 
 
-@check("sub: kept sessions and -U")
+@check("sub: kept sessions")
 def _(room):
     room.broker()
     for number, whose in enumerate((OURS, THEIRS)):
@@ -511,11 +510,7 @@ def _(room):
     same("two of five", found[0], (0, b"0\n1\n"))
     # Ours acknowledges nothing behind the second message, so the others come again.
     same("the others", room.at(OURS, "sub", ["-i", "kept0", "-c", "-q", 1, "-t", "k", "-C", 3]).ended()[:2], (0, b"2\n3\n4\n"))
-    same("unsubscribe", room.at(OURS, "sub", ["-i", "kept0", "-c", "-t", "other", "-U", "k", "-E"]).ended()[0], 0)
-    peer.publish(b"k", b"nobody", 1)
-    peer.publish(b"other", b"somebody", 1)
     peer.close()
-    same("only the other", room.at(OURS, "sub", ["-i", "kept0", "-c", "-q", 1, "-t", "other", "-C", 1]).ended()[:2], (0, b"somebody\n"))
 
 
 @check("wills")

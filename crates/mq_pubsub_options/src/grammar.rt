@@ -320,9 +320,6 @@ pub fn subscribe_command<'a>(alloc: Global) -> Result<Command<'a>, AllocError> {
         alloc,
         both_row("TOPIC", 't', "topic", "FILTER", help),
     )?;
-    let help = "The topic filter to unsubscribe from; may be repeated";
-    let given_up = both_row("GIVEN_UP", 'U', "unsubscribe", "FILTER", help);
-    let command = texts(command, alloc, given_up)?;
     let help = "The maximum quality of service, 0 to 2 [default: 0]";
     let kind = value_parser!(u8).range(0..=2);
     let command = number(

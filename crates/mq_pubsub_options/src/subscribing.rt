@@ -17,8 +17,6 @@ pub struct SubscribeWords {
     pub common: Common,
     /// The filters to subscribe to.
     pub filters: Vec<TopicFilter>,
-    /// The filters to unsubscribe from.
-    pub given_up: Vec<TopicFilter>,
     /// Messages whose topic matches one of these are not printed.
     pub excluded: Vec<TopicFilter>,
     /// The number of messages to print before the end.
@@ -108,13 +106,11 @@ pub fn subscribe_words(
             "-R and --retained-only together print nothing: give only one of them",
         ));
     }
-    let given_up = all_of(alloc, &matches, "GIVEN_UP")?;
     let excluded = all_of(alloc, &matches, "EXCLUDED")?;
     let count: Option<u64> = matches.get_one("COUNT");
     Ok(SubscribeWords {
         common,
         filters,
-        given_up: filters_of(alloc, "-U", given_up.as_slice())?,
         excluded: filters_of(alloc, "-T", excluded.as_slice())?,
         count,
         skips_retained,
