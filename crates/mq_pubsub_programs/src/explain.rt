@@ -235,10 +235,8 @@ pub(crate) fn tell_end<R: Eprint>(rt: &R, place: &Place<'_>, error: RunError, wo
         RunError::TimedOut => {
             let _ = eprintln!(rt; "mqtt {command}: the time of -W is over; {work}.");
         }
-        RunError::Refused(_)
-        | RunError::NotSubscribed
-        | RunError::TooLarge
-        | RunError::Unwritten => tell_refused(rt, place, error, work),
+        RunError::Refused(_) | RunError::NotSubscribed | RunError::TooLarge | RunError::Unwritten =>
+            tell_refused(rt, place, error, work),
         RunError::Unsaved(_) | RunError::Input(_) | RunError::Output | RunError::Memory => {
             tell_system(rt, place, error, work);
         }

@@ -137,14 +137,7 @@ where
         is_quiet: common.quiet,
         printed: 0,
     };
-    let end = subscribe_with(
-        alloc,
-        &setup,
-        session,
-        &mut link,
-        &options,
-        &mut printer,
-    )?;
+    let end = subscribe_with(alloc, &setup, session, &mut link, &options, &mut printer)?;
     if let (Err(error), false) = (end, common.quiet) {
         let place = Place {
             command: "sub",

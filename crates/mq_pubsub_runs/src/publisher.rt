@@ -169,10 +169,15 @@ fn publish_once<S: Stream + Drop, C: Clock + Drop, K: SessionSaver, N: Network<S
         × StartsWith a sitting.client (K.kept sitting.keeper)
         × StartsWith b result.client (K.kept result.keeper)
         × ProgressUntil a b outbox.old.next outbox.new.next outbox.old.lost outbox.new.lost
-            (M.given source.old) (M.given source.new) stop) }
+        (M.given source.old) (M.given source.new) stop) }
 {
     redial.dialed();
-    let mut peer = Peer::new(sitting.client, connection.stream, connection.clock, sitting.keeper);
+    let mut peer = Peer::new(
+        sitting.client,
+        connection.stream,
+        connection.clock,
+        sitting.keeper,
+    );
     let end = publish_over(&mut peer, network, source, outbox, clean, redial);
     let (client, keeper) = peer.into_parts();
     Sitting {
@@ -232,7 +237,13 @@ pub fn publish<S: Stream + Drop, C: Clock + Drop, K: SessionSaver, N: Network<S,
         match network.dial() {
             Ok(connection) => {
                 sitting = publish_once(
-                    sitting, connection, network, source, &mut outbox, options.clean, &mut redial,
+                    sitting,
+                    connection,
+                    network,
+                    source,
+                    &mut outbox,
+                    options.clean,
+                    &mut redial,
                 );
             }
             Err(_) => sitting.end = Err(redial.missed()),

@@ -184,13 +184,7 @@ fn subscribe_over<S: Stream, C: Clock, K: SessionSaver, N: Network<S, C>, P: Pri
 }
 
 // Subscribes over a new connection.
-fn subscribe_once<
-    S: Stream + Drop,
-    C: Clock + Drop,
-    K: SessionSaver,
-    N: Network<S, C>,
-    P: Printer,
->(
+fn subscribe_once<S: Stream + Drop, C: Clock + Drop, K: SessionSaver, N: Network<S, C>, P: Printer>(
     sitting: Sitting<K>,
     connection: Connection<S, C>,
     network: &mut N,
@@ -203,16 +197,21 @@ fn subscribe_once<
         × StartsWith a sitting.client (K.kept sitting.keeper)
         × StartsWith b result.client (K.kept result.keeper)
         × Watched options.now.choice options.now.ends_when_granted
-            a inbox.old (P.shown printer.old) b inbox.new (P.shown printer.new)) }
+        a inbox.old (P.shown printer.old) b inbox.new (P.shown printer.new)) }
     ensures ended { OnOk result.end (inbox.new.is_ended ≡ true) }
     ensures err { IfErr result.end (λ stop. (a : Moment) × (b : Moment)
         × StartsWith a sitting.client (K.kept sitting.keeper)
         × StartsWith b result.client (K.kept result.keeper)
         × WatchedUntil options.now.choice options.now.ends_when_granted
-            a inbox.old (P.shown printer.old) b inbox.new (P.shown printer.new) stop) }
+        a inbox.old (P.shown printer.old) b inbox.new (P.shown printer.new) stop) }
 {
     redial.dialed();
-    let mut peer = Peer::new(sitting.client, connection.stream, connection.clock, sitting.keeper);
+    let mut peer = Peer::new(
+        sitting.client,
+        connection.stream,
+        connection.clock,
+        sitting.keeper,
+    );
     let end = subscribe_over(&mut peer, network, inbox, options, printer, redial);
     let (client, keeper) = peer.into_parts();
     Sitting {
@@ -264,11 +263,7 @@ fn end_of<K: SessionSaver>(
 {
     let Sitting { client, keeper, .. } = sitting;
     drop(client);
-    Subscribed {
-        keeper,
-        inbox,
-        end,
-    }
+    Subscribed { keeper, inbox, end }
 }
 
 /// Subscribes, and prints the messages that are delivered, in order, over as many connections as it
@@ -277,13 +272,7 @@ fn end_of<K: SessionSaver>(
 /// The subscriptions are requested on the first connection, and again on each one for which the
 /// server has no session or in whose session it has not granted them. A message is printed and
 /// flushed before it is acknowledged.
-pub fn subscribe<
-    S: Stream + Drop,
-    C: Clock + Drop,
-    K: SessionSaver,
-    N: Network<S, C>,
-    P: Printer,
->(
+pub fn subscribe<S: Stream + Drop, C: Clock + Drop, K: SessionSaver, N: Network<S, C>, P: Printer>(
     alloc: Global,
     setup: &Setup,
     client: ClientEnd,
@@ -294,12 +283,12 @@ pub fn subscribe<
 ) -> Subscribed<K>
     ensures ok { OnOk result.end ((a : Moment) × StartsWith a client (K.kept keeper)
         × (b : Moment) × Watched options.now.choice options.now.ends_when_granted
-            a (first_inbox options.now) (P.shown printer.old)
-            b result.inbox (P.shown printer.new)) }
+        a (first_inbox options.now) (P.shown printer.old)
+        b result.inbox (P.shown printer.new)) }
     ensures ended { OnOk result.end (result.inbox.is_ended ≡ true) }
     ensures err { OnErr result.end ((a : Moment) × StartsWith a client (K.kept keeper)
         × WatchedPart options.now.choice options.now.ends_when_granted
-            a (first_inbox options.now) (P.shown printer.old) (P.shown printer.new)) }
+        a (first_inbox options.now) (P.shown printer.old) (P.shown printer.new)) }
 {
     let mut inbox = first_inbox(options);
     let mut redial = Redial::new(options.retry);
@@ -313,7 +302,13 @@ pub fn subscribe<
         match network.dial() {
             Ok(connection) => {
                 sitting = subscribe_once(
-                    sitting, connection, network, &mut inbox, options, printer, &mut redial,
+                    sitting,
+                    connection,
+                    network,
+                    &mut inbox,
+                    options,
+                    printer,
+                    &mut redial,
                 );
             }
             Err(_) => sitting.end = Err(redial.missed()),
