@@ -11,13 +11,13 @@ const ROWS: [(&str, &str); 10] = [
     ("GET / HTTP/1.1\r\nHost: a\r\n", "pending"),
     (
         "HEAD / HTTP/1.1\r\nHost: a\r\n\r\n",
-        "HTTP/1.1 200 OK\r\nContent-Type: text/html; charset=utf-8\r\nContent-Length: 2520\r\n\
+        "HTTP/1.1 200 OK\r\nContent-Type: text/html; charset=utf-8\r\nContent-Length: 2566\r\n\
          Cache-Control: no-store\r\nConnection: close\r\n\r\n",
     ),
     (
         "HEAD /metrics HTTP/1.0\r\n\r\n",
         "HTTP/1.1 200 OK\r\nContent-Type: text/plain; version=0.0.4; charset=utf-8\r\n\
-         Content-Length: 4027\r\nCache-Control: no-store\r\nConnection: close\r\n\r\n",
+         Content-Length: 4071\r\nCache-Control: no-store\r\nConnection: close\r\n\r\n",
     ),
     (
         "GET /metrics/ HTTP/1.1\r\n\r\n",
