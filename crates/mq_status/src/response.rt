@@ -81,9 +81,10 @@ pub fn write_response<W: Write>(
         (response_text reply metrics.now rows.now)) }
 {
     let body = body_of(alloc, reply.status, metrics, rows)?;
-    write_head(output, reply.status, body.len())?;
+    let text = body.as_slice();
+    write_head(output, reply.status, text.len())?;
     if reply.head_only {
         return Ok(());
     }
-    output.write_all(body.as_slice())
+    output.write_all(text)
 }
