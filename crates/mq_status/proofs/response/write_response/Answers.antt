@@ -9,8 +9,8 @@ returns g c =
     let w = g.W.Write.contents in
     let status = c.args.reply.status in
     let text : List ℕ = body_text status c.args.metrics.now c.args.rows.now in
-    let sent : c.as_slice.result.now ≡ text = c.as_slice.ensures.value ∙ c.in_ok-body.ensures in
-    let size : c.len.result ≡ length text = c.len.ensures ∙ ap (λ (t : List ℕ). length t) sent in
+    let sent : c.as_slice-text.result.now ≡ text = c.as_slice-text.ensures.value ∙ c.in_ok-body.ensures in
+    let size : length c.as_slice-text.result.now ≡ length text = ap (λ (t : List ℕ). length t) sent in
     let head = subst (λ n. Appends (w c.args.output.now) (w c.write_head.new.output) (head_lines status n)) size c.in_ok-write_head.ensures in
     let body = subst (λ t. OnOk c.write_all.result (Appends (w c.write_head.new.output) (w c.write_all.new.self) t)) sent c.write_all.ensures.bytes in
     rw c.if-reply.false (and_then _ _ _ _ (head_lines status (length text)) text head body)
