@@ -337,6 +337,22 @@ def late_connects(program):
         assert sum(bool(re.fullmatch(line, it)) for it in broker.lines()) == 2, broker.lines()
 
 
+def broad_subscribe(program):
+    """A SUBSCRIBE with too many filters for the retained messages closes its connection alone."""
+    with Broker(program, "--max-matches", "1000") as broker, contextlib.ExitStack() as stack:
+        publisher, broad, narrow = [stack.enter_context(Client(broker, it)) for it in ("p", "b", "n")]
+        for nth in range(10):
+            publisher.send(packet(0x31, text(f"a/{nth}") + b"x"))
+        publisher.ping()
+        request = text("b/+") + b"\0"
+        narrow.send(packet(0x82, b"\0\1" + 100 * request))
+        narrow.expect(0x90)
+        broad.send(packet(0x82, b"\0\1" + 101 * request))
+        assert broad.is_closed()
+        await_line(broker, 'closed client=b code=C13 reason="too many retained messages"')
+        narrow.ping()
+
+
 def await_line(broker, line):
     """Waits until the log has this line."""
     for _ in range(200):
@@ -632,7 +648,7 @@ def rows(program):
 
 TESTS = [
     arguments, many_connections, too_many_connections, no_descriptor, silent_reader, leaving,
-    silent_connections, late_connects, missed_messages, full_session, full_bytes, expiring,
+    silent_connections, late_connects, broad_subscribe, missed_messages, full_session, full_bytes, expiring,
     endless_publisher, passwords, metrics, rows,
 ]
 
