@@ -229,6 +229,15 @@ fn with_times<'a>(alloc: Global, command: Command<'a>) -> Result<Command<'a>, Al
     with_patience(alloc, command)
 }
 
+// The command with the options of the passwords, of the metrics and of the journal.
+fn with_services<'a>(alloc: Global, command: Command<'a>) -> Result<Command<'a>, AllocError>
+    ensures words { IfOk result (λ new. app_of new ≡ with_data (with_extras (app_of command.entry))) }
+    ensures local { IfOk result (λ new. (out-Command new).has_globals ≡ (out-Command command.entry).has_globals) }
+{
+    let command = with_extras(alloc, command)?;
+    with_data(alloc, command)
+}
+
 /// `broker [--listen ADDR:PORT] ..`.
 pub(crate) fn broker_command<'a>(alloc: Global) -> Result<Command<'a>, AllocError>
     ensures words { IfOk result (λ command. app_of command ≡ broker_words) }
@@ -246,8 +255,7 @@ pub(crate) fn broker_command<'a>(alloc: Global) -> Result<Command<'a>, AllocErro
     let command = with_tables(alloc, command)?;
     let command = with_limits(alloc, command)?;
     let command = with_times(alloc, command)?;
-    let command = with_extras(alloc, command)?;
-    let command = with_data(alloc, command)?;
+    let command = with_services(alloc, command)?;
     with_logs(alloc, command)
 }
 
