@@ -216,7 +216,7 @@ pub(crate) const WINDOW: [Row; 7] = [
     ),
 ];
 
-// CONNECT with a length in two bytes where one is enough.
+// CONNECT whose length has two bytes, although one is enough.
 const OVERLONG: &str = "108d0000044d51545404020000000170";
 
 /// A broker that is lenient accepts a length that is longer than it must be (2.2.3).
