@@ -11,6 +11,9 @@ use Rattle.mq_cli.specs.declared.jobs.Source.TheVariants.{File, Standard}
 use Rattle.mq_cli.specs.declared.jobs.Command.{Command}
 use Rattle.mq_cli.specs.declared.jobs.Command.TheVariants as commands
 use Rattle.mq_cli.specs.declared.broker.Broker.{Broker}
+use Rattle.mq_cli.specs.declared.broker.DataFolder.{DataFolder}
+use Rattle.mq_cli.specs.declared.broker.Durability.{Durability}
+use Rattle.mq_cli.specs.declared.broker.Durability.TheVariants as failures
 use Rattle.mq_cli.specs.declared.broker.OnFull.{OnFull}
 use Rattle.mq_cli.specs.declared.broker.OnFull.TheVariants as choices
 use Rattle.mq_cli.specs.declared.jobs.Serve.{Serve}
@@ -148,6 +151,22 @@ IsOnFull command choice =
     GivesWord command (codes "broker") (codes "WHEN_FULL") (full_word choice)
     ⊎ (HasWord command (codes "broker") (codes "WHEN_FULL") None × (choice ≡ choices.Drop))
 
+-- the word of a failure that a journal survives
+abbrev pub keep_word : Durability → Text
+keep_word failures.System = codes "system"
+keep_word failures.Disk = codes "disk"
+
+-- the failure that the journal survives, or `disk` if it was not given
+abbrev pub IsKeep : Option (Text × List Row) → Durability → Type 0
+IsKeep command choice =
+    GivesWord command (codes "broker") (codes "KEEP") (keep_word choice)
+    ⊎ (HasWord command (codes "broker") (codes "KEEP") None × (choice ≡ failures.Disk))
+
+-- The folder of the journal. Without a folder the failure that it survives must not be given.
+abbrev pub IsData : Option (Text × List Row) → Option DataFolder → Type 0
+IsData command None = HasWord command (codes "broker") (codes "DATA") None × HasWord command (codes "broker") (codes "KEEP") None
+IsData command (Some folder) = GivesWord command (codes "broker") (codes "DATA") folder.path.now × IsKeep command folder.keep
+
 -- the words of `broker`
 pub record IsBroker (command : Option (Text × List Row)) (broker : Broker) : Type 0 where
   pub listen : HasWord command (codes "broker") (codes "LISTEN") (option_map (λ text. text.now) broker.listen)
@@ -163,6 +182,7 @@ pub record IsBroker (command : Option (Text × List Row)) (broker : Broker) : Ty
   pub when_full : IsOnFull command broker.when_full
   pub passwords : HasWord command (codes "broker") (codes "PASSWORDS") (option_map (λ file. file.now) broker.passwords)
   pub metrics : HasWord command (codes "broker") (codes "METRICS") (option_map (λ text. text.now) broker.metrics)
+  pub journal : IsData command broker.journal
   pub log : HasWord command (codes "broker") (codes "LOG") (option_map (λ file. file.now) broker.log)
   pub quiet : GivesFlag command (codes "broker") (codes "QUIET") broker.quiet
   pub verbose : GivesFlag command (codes "broker") (codes "VERBOSE") broker.verbose
@@ -177,6 +197,7 @@ abbrev pub IsCommandOf : Option (Text × List Row) → Command → Type 0
 IsCommandOf command (commands.Job job) = IsJobOf command job
 IsCommandOf command (commands.Serve serve) = IsServe command serve
 IsCommandOf command (commands.Broker broker) = IsBroker command broker
+IsCommandOf command (commands.Journal name) = GivesWord command (codes "journal") (codes "FILE") name.now
 IsCommandOf command (commands.Password name) = GivesWord command (codes "password") (codes "NAME") name.now
 IsCommandOf command (commands.Publish publish) = IsPublish command publish
 IsCommandOf command (commands.Collect collect) = IsCollect command collect

@@ -130,10 +130,14 @@ abbrev pub with_logs : App → App
 with_logs app =
     with_rule (with_rule (with_rule app (file_rule (codes "LOG") (codes "log"))) (flag_rule (codes "QUIET") (codes "quiet"))) (flag_rule (codes "VERBOSE") (codes "verbose"))
 
+-- the folder of the journal, and the failure that it survives
+abbrev pub with_data : App → App
+with_data app = with_rule (with_rule app (file_rule (codes "DATA") (codes "data"))) (file_rule (codes "KEEP") (codes "keep"))
+
 -- `broker`, whose options can all be left out
 abbrev pub broker_words : App
-broker_words = with_logs (with_extras (with_patience (with_sessions (with_limits (with_tables (with_rule (new_app (codes "broker")) (file_rule (codes "LISTEN") (codes "listen"))))))))
+broker_words = with_logs (with_data (with_extras (with_patience (with_sessions (with_limits (with_tables (with_rule (new_app (codes "broker")) (file_rule (codes "LISTEN") (codes "listen")))))))))
 
--- `broker`, `password NAME`, `loopback FILE`
+-- `broker`, `journal FILE`, `password NAME`, `loopback FILE`
 abbrev pub program_words : App
-program_words = with_subcommand (with_subcommand (with_subcommand socket_words broker_words.top) (word_words (codes "password") (codes "NAME")).top) (word_words (codes "loopback") (codes "FILE")).top
+program_words = with_subcommand (with_subcommand (with_subcommand (with_subcommand socket_words broker_words.top) (word_words (codes "journal") (codes "FILE")).top) (word_words (codes "password") (codes "NAME")).top) (word_words (codes "loopback") (codes "FILE")).top

@@ -3,8 +3,8 @@
 ghost use Rattle.std.specs.Prelude.{◌≡◌, false, codes, IfOk, IfSome};
 ghost use Rattle.clap.specs.Words.{app_of, rule_of, subcommand_rows_of};
 ghost use Rattle.clap.specs.declared.builder.command.Command.TheViews.{out-Command};
-ghost use Rattle.mq_cli.specs.CommandLine.{IsBroker, IsExpiry, IsLimit, IsOnFull, IsPatience, IsTime, full_word};
-ghost use Rattle.mq_cli.specs.Grammar.{broker_words, limit_rule, with_extras, with_limits, with_logs, with_patience, with_sessions, with_tables};
+ghost use Rattle.mq_cli.specs.CommandLine.{IsBroker, IsData, IsExpiry, IsKeep, IsLimit, IsOnFull, IsPatience, IsTime, full_word, keep_word};
+ghost use Rattle.mq_cli.specs.Grammar.{broker_words, limit_rule, with_data, with_extras, with_limits, with_logs, with_patience, with_sessions, with_tables};
 
 use crate::grammar::{Texts, file_option, flag, new_command, with_arg};
 use crate::words::{flag_of, given_of, number_of};
@@ -22,6 +22,24 @@ pub enum OnFull {
     Drop,
     /// The publisher's connection is closed.
     Close,
+}
+
+/// The failure that the journal of a broker survives.
+#[derive(Clone, Copy, Debug, PartialEq, Eq)]
+pub enum Durability {
+    /// The end of the process.
+    System,
+    /// The end of the machine's power.
+    Disk,
+}
+
+/// The folder of a broker's journal.
+#[derive(Clone, Copy, Debug, PartialEq, Eq)]
+pub struct DataFolder<'a> {
+    /// The path, as given.
+    pub path: &'a str,
+    /// The failure that the journal survives.
+    pub keep: Durability,
 }
 
 /// A broker that runs until it is stopped.
@@ -54,6 +72,8 @@ pub struct Broker<'a> {
     pub passwords: Option<&'a str>,
     /// The address and the port of the metrics, as given.
     pub metrics: Option<&'a str>,
+    /// The folder of the journal; `None` to keep all state in memory.
+    pub journal: Option<DataFolder<'a>>,
     /// The file of the log; `None` for the standard error.
     pub log: Option<&'a str>,
     /// The log has no lines.
@@ -175,6 +195,18 @@ fn with_extras<'a>(alloc: Global, command: Command<'a>) -> Result<Command<'a>, A
     with_arg(command, file_option(alloc, "METRICS", "metrics", help))
 }
 
+// The command with the options of the journal.
+fn with_data<'a>(alloc: Global, command: Command<'a>) -> Result<Command<'a>, AllocError>
+    ensures words { IfOk result (λ new. app_of new ≡ with_data (app_of command.entry)) }
+    ensures local { IfOk result (λ new. (out-Command new).has_globals ≡ (out-Command command.entry).has_globals) }
+{
+    let help = "Keeps all state in a journal in this folder, and recovers it from there";
+    let command = with_arg(command, file_option(alloc, "DATA", "data", help))?;
+    let help =
+        "The failure that the journal survives: `system`, a kill, or `disk`, a power cut [default: disk]";
+    with_arg(command, file_option(alloc, "KEEP", "keep", help))
+}
+
 // The command with the options of the log.
 fn with_logs<'a>(alloc: Global, command: Command<'a>) -> Result<Command<'a>, AllocError>
     ensures words { IfOk result (λ new. app_of new ≡ with_logs (app_of command.entry)) }
@@ -197,6 +229,15 @@ fn with_times<'a>(alloc: Global, command: Command<'a>) -> Result<Command<'a>, Al
     with_patience(alloc, command)
 }
 
+// The command with the options of the passwords, of the metrics and of the journal.
+fn with_services<'a>(alloc: Global, command: Command<'a>) -> Result<Command<'a>, AllocError>
+    ensures words { IfOk result (λ new. app_of new ≡ with_data (with_extras (app_of command.entry))) }
+    ensures local { IfOk result (λ new. (out-Command new).has_globals ≡ (out-Command command.entry).has_globals) }
+{
+    let command = with_extras(alloc, command)?;
+    with_data(alloc, command)
+}
+
 /// `broker [--listen ADDR:PORT] ..`.
 pub(crate) fn broker_command<'a>(alloc: Global) -> Result<Command<'a>, AllocError>
     ensures words { IfOk result (λ command. app_of command ≡ broker_words) }
@@ -214,7 +255,7 @@ pub(crate) fn broker_command<'a>(alloc: Global) -> Result<Command<'a>, AllocErro
     let command = with_tables(alloc, command)?;
     let command = with_limits(alloc, command)?;
     let command = with_times(alloc, command)?;
-    let command = with_extras(alloc, command)?;
+    let command = with_services(alloc, command)?;
     with_logs(alloc, command)
 }
 
@@ -294,13 +335,54 @@ fn on_full_of(matches: &ArgMatches<'_>) -> Option<OnFull>
     }
 }
 
+// The choice of `--keep`.
+fn durability_of(text: &str) -> Option<Durability>
+    ensures { IfSome result (λ choice. text.now ≡ keep_word choice) }
+{
+    match text {
+        "system" => Some(Durability::System),
+        "disk" => Some(Durability::Disk),
+        _ => None,
+    }
+}
+
+fn keep_of(matches: &ArgMatches<'_>) -> Option<Durability>
+    ensures { IfSome result (IsKeep (subcommand_rows_of matches.now)) }
+{
+    match given_of(matches, "broker", "KEEP")? {
+        None => Some(Durability::Disk),
+        Some(text) => durability_of(text),
+    }
+}
+
+fn data_of<'a>(matches: &ArgMatches<'a>) -> Option<Option<DataFolder<'a>>>
+    ensures { IfSome result (IsData (subcommand_rows_of matches.now)) }
+{
+    match given_of(matches, "broker", "DATA")? {
+        Some(path) => {
+            let keep = keep_of(matches)?;
+            Some(Some(DataFolder { path, keep }))
+        }
+        None => match given_of(matches, "broker", "KEEP")? {
+            None => Some(None),
+            Some(_) => None,
+        },
+    }
+}
+
 /// The error for arguments of `broker` that the parser accepts although they are not valid.
 pub(crate) fn broker_complaint(matches: &ArgMatches<'_>) -> &'static str {
     if patience_of(matches).is_none() {
         return "--connect-within wants seconds, from 1 to 4294967295, or never";
     }
-    match expiry_of(matches) {
-        None => "--session-expiry wants seconds, from 1 to 4294967295, or never",
+    if expiry_of(matches).is_none() {
+        return "--session-expiry wants seconds, from 1 to 4294967295, or never";
+    }
+    if keep_of(matches).is_none() {
+        return "--keep wants system or disk";
+    }
+    match data_of(matches) {
+        None => "broker wants --data DIR with --keep",
         Some(_) => "--when-full wants drop or close",
     }
 }
@@ -323,6 +405,7 @@ pub(crate) fn broker_of<'a>(matches: &ArgMatches<'a>) -> Option<Broker<'a>>
         when_full: on_full_of(matches)?,
         passwords: given_of(matches, "broker", "PASSWORDS")?,
         metrics: given_of(matches, "broker", "METRICS")?,
+        journal: data_of(matches)?,
         log: given_of(matches, "broker", "LOG")?,
         quiet: flag_of(matches, "broker", "QUIET")?,
         verbose: flag_of(matches, "broker", "VERBOSE")?,

@@ -366,6 +366,25 @@ fn collect_command<'a>(alloc: Global) -> Result<Command<'a>, AllocError>
     with_arg(command, flag(alloc, "CLEAN", "clean", clean))
 }
 
+// `journal FILE`.
+fn journal_command<'a>(alloc: Global) -> Result<Command<'a>, AllocError>
+    ensures words { IfOk result
+        (λ command. app_of command ≡ word_words (codes "journal") (codes "FILE")) }
+    ensures local { IfOk result (λ command. (out-Command command).has_globals ≡ false) }
+{
+    let texts = Texts {
+        name: "journal",
+        about: "Prints the entries of a broker's journal, and how it ends",
+        example: "Example: mqtt journal /var/lib/mqtt/journal.1",
+    };
+    word_command(
+        alloc,
+        texts,
+        "FILE",
+        "A file of the folder of `mqtt broker --data`",
+    )
+}
+
 // `password NAME`.
 fn password_command<'a>(alloc: Global) -> Result<Command<'a>, AllocError>
     ensures words { IfOk result
@@ -441,6 +460,7 @@ pub(crate) fn command_line<'a>(alloc: Global) -> Result<Command<'a>, AllocError>
 {
     let line = socket_commands(alloc)?;
     let line = with_command(line, broker_command(alloc))?;
+    let line = with_command(line, journal_command(alloc))?;
     let line = with_command(line, password_command(alloc))?;
     with_command(line, loopback_command(alloc))
 }
@@ -457,6 +477,7 @@ pub(crate) fn shown_command<'a>(alloc: Global, name: &str) -> Result<Command<'a>
         "publish" => publish_command(alloc)?.bin_name("mqtt publish"),
         "collect" => collect_command(alloc)?.bin_name("mqtt collect"),
         "broker" => broker_command(alloc)?.bin_name("mqtt broker"),
+        "journal" => journal_command(alloc)?.bin_name("mqtt journal"),
         "password" => password_command(alloc)?.bin_name("mqtt password"),
         "loopback" => loopback_command(alloc)?.bin_name("mqtt loopback"),
         _ => command_line(alloc),

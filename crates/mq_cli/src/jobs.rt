@@ -24,6 +24,8 @@ pub enum Command<'a> {
     Serve(Serve),
     /// To serve as a broker until it is stopped.
     Broker(Broker<'a>),
+    /// Prints the journal of a broker in this file.
+    Journal(&'a str),
     /// To print a line for a file of passwords, for the user of this name.
     Password(&'a str),
     /// To publish texts as a client.

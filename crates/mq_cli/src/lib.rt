@@ -18,7 +18,7 @@ mod stream;
 mod streaming;
 mod words;
 
-pub use crate::broker::{Broker, OnFull};
+pub use crate::broker::{Broker, DataFolder, Durability, OnFull};
 pub use crate::count::{CountEnd, CountFault, PacketCount, count_packets};
 pub use crate::failure::{Failure, exit_status};
 pub use crate::input::{Fallible, JobInput};

@@ -322,6 +322,13 @@ fn collect_of<'a>(matches: &ArgMatches<'a>) -> Option<Collect<'a>>
     })
 }
 
+fn journal_of<'a>(matches: &ArgMatches<'a>) -> Option<&'a str>
+    ensures { IfSome result (λ name.
+        GivesWord (subcommand_rows_of matches.now) (codes "journal") (codes "FILE") name.now) }
+{
+    word_of(matches, "journal", "FILE")
+}
+
 fn password_of<'a>(matches: &ArgMatches<'a>) -> Option<&'a str>
     ensures { IfSome result (λ name.
         GivesWord (subcommand_rows_of matches.now) (codes "password") (codes "NAME") name.now) }
@@ -351,6 +358,9 @@ fn command_of<'a>(
     }
     if let Some(broker) = broker_of(matches) {
         return Ok(Some(Command::Broker(broker)));
+    }
+    if let Some(name) = journal_of(matches) {
+        return Ok(Some(Command::Journal(name)));
     }
     if let Some(name) = password_of(matches) {
         return Ok(Some(Command::Password(name)));

@@ -68,6 +68,7 @@ abbrev pub IsClientRun : Command → ℕ → List ℕ → Type 0
 IsClientRun (commands.Job job) status text = ⊥
 IsClientRun (commands.Serve serve) status text = ⊥
 IsClientRun (commands.Broker broker) status text = ⊥
+IsClientRun (commands.Journal name) status text = ⊥
 IsClientRun (commands.Password name) status text = ⊥
 IsClientRun (commands.Publish publish) status text = IsPublishRun publish status text
 IsClientRun (commands.Collect collect) status text = IsCollectRun collect status text

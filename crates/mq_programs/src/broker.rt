@@ -1,9 +1,11 @@
 //! The command `broker`.
 
-ghost use Rattle.std.specs.Prelude.{◌≡◌, ◌*◌, option_map};
-ghost use Rattle.mq_programs.specs.Options.{argument_status, when_full_of};
+ghost use Rattle.std.specs.Prelude.{◌≡◌, IfOk};
+ghost use Rattle.mq_programs.specs.Kept.{IsBrokerStatus, IsEnded, IsReady, MayEnd};
+ghost use Rattle.mq_programs.specs.Options.{AreOptionsOf, milliseconds, start_status, when_full_of};
 
-use mq_broker::{BrokerEnd, BrokerOptions, Log, LogLevel, run_broker};
+use crate::kept::{Ready, recover};
+use mq_broker::{BrokerEnd, BrokerOptions, Log, LogLevel, OpenError};
 use mq_cli::{Broker, OnFull};
 use mq_route::WhenFull;
 use mq_status::{PasswordsError, UserTables, read_users};
@@ -19,9 +21,9 @@ use thiserror::Error;
 /// The address and port on which the broker listens without `--listen`.
 const LISTEN: &str = "127.0.0.1:1883";
 
-/// Why a broker can't start with its arguments.
+/// Why a broker did not start.
 #[derive(Debug, Drop, Error)]
-enum ArgumentError<'a> {
+enum StartError<'a> {
     /// A text is not an address.
     #[error("'{0}' is not an address: write ADDR:PORT")]
     Address(&'a str),
@@ -34,46 +36,51 @@ enum ArgumentError<'a> {
     /// The file of the log can't be opened.
     #[error("the log '{0}' cannot be opened")]
     Log(&'a str),
+    /// The folder of the journal can't be used.
+    #[error("the folder '{0}': {1}")]
+    Folder(&'a str, OpenError),
     /// An allocation failed.
     #[error("out of memory")]
     Memory,
 }
 
-impl<'a> ArgumentError<'a> {
-    // The exit status of the program: 3 if an allocation failed, otherwise 2.
+impl<'a> StartError<'a> {
+    // The exit status of the program: 3 if an allocation failed, that of the folder if it can't be
+    // used, otherwise 2.
     fn status(&self) -> u8
-        ensures { result ≡ argument_status self.now }
+        ensures { result ≡ start_status self.now }
     {
         match self {
-            ArgumentError::Memory => 3,
-            ArgumentError::Address(_)
-            | ArgumentError::Unread(_)
-            | ArgumentError::Passwords(..)
-            | ArgumentError::Log(_) => 2,
+            StartError::Memory => 3,
+            StartError::Folder(_, error) => error.status(),
+            StartError::Address(_)
+            | StartError::Unread(_)
+            | StartError::Passwords(..)
+            | StartError::Log(_) => 2,
         }
     }
 
     // Why the file of passwords can't be read.
-    fn of_read(name: &'a str, error: &io::Error) -> ArgumentError<'a> {
+    fn of_read(name: &'a str, error: &io::Error) -> StartError<'a> {
         match error.kind() {
-            ErrorKind::OutOfMemory => ArgumentError::Memory,
-            _ => ArgumentError::Unread(name),
+            ErrorKind::OutOfMemory => StartError::Memory,
+            _ => StartError::Unread(name),
         }
     }
 
     // Why the file of passwords is not valid.
-    fn of_passwords(name: &'a str, error: PasswordsError) -> ArgumentError<'a> {
+    fn of_passwords(name: &'a str, error: PasswordsError) -> StartError<'a> {
         match error {
-            PasswordsError::Memory => ArgumentError::Memory,
-            error => ArgumentError::Passwords(name, error),
+            PasswordsError::Memory => StartError::Memory,
+            error => StartError::Passwords(name, error),
         }
     }
 }
 
-fn address_of<'a>(text: &'a str) -> Result<SocketAddr, ArgumentError<'a>> {
+fn address_of<'a>(text: &'a str) -> Result<SocketAddr, StartError<'a>> {
     match text.parse::<SocketAddr>() {
         Ok(address) => Ok(address),
-        Err(_) => Err(ArgumentError::Address(text)),
+        Err(_) => Err(StartError::Address(text)),
     }
 }
 
@@ -82,18 +89,18 @@ fn tables_of<'a, R: Files<File = File>>(
     rt: &R,
     alloc: Global,
     name: &'a str,
-) -> Result<UserTables, ArgumentError<'a>> {
+) -> Result<UserTables, StartError<'a>> {
     let mut bytes = Vec::new(alloc);
     let mut file = match File::open(rt, name) {
         Ok(file) => file,
-        Err(error) => return Err(ArgumentError::of_read(name, &error)),
+        Err(error) => return Err(StartError::of_read(name, &error)),
     };
     if let Err(error) = file.read_to_end(&mut bytes) {
-        return Err(ArgumentError::of_read(name, &error));
+        return Err(StartError::of_read(name, &error));
     }
     match read_users(alloc, bytes.as_slice()) {
         Ok(tables) => Ok(tables),
-        Err(error) => Err(ArgumentError::of_passwords(name, error)),
+        Err(error) => Err(StartError::of_passwords(name, error)),
     }
 }
 
@@ -109,7 +116,7 @@ fn when_full_of(choice: OnFull) -> WhenFull
 
 // The milliseconds of seconds.
 fn milliseconds_of(seconds: Option<u32>) -> Option<u64>
-    ensures { result ≡ option_map (λ count. count * 1000) seconds }
+    ensures { result ≡ milliseconds seconds }
 {
     match seconds {
         Some(seconds) => Some(u64::from(seconds) * 1_000),
@@ -125,18 +132,7 @@ fn open_options(
 ) -> BrokerOptions
     ensures listen { result.listen ≡ listen }
     ensures metrics { result.metrics ≡ metrics }
-    ensures connections { result.max_connections ≡ words.now.max_connections }
-    ensures sessions { result.max_sessions ≡ words.now.max_sessions }
-    ensures packet { result.max_packet ≡ words.now.max_packet }
-    ensures capacity { result.capacity ≡ words.now.capacity }
-    ensures stored { result.max_stored ≡ words.now.max_stored }
-    ensures waiting { result.max_waiting ≡ words.now.max_waiting }
-    ensures matches { result.max_matches ≡ words.now.max_matches }
-    ensures session_expiry { result.session_expiry
-        ≡ option_map (λ seconds. seconds * 1000) words.now.session_expiry }
-    ensures when_full { result.when_full ≡ when_full_of words.now.when_full }
-    ensures connect_within { result.connect_within
-        ≡ option_map (λ seconds. seconds * 1000) words.now.connect_within }
+    ensures limits { AreOptionsOf words.now result }
     ensures users { (result.users ≡ None) × (result.hashed_users ≡ None) }
 {
     BrokerOptions {
@@ -162,7 +158,9 @@ fn options_of<'a, R: Files<File = File>>(
     rt: &R,
     alloc: Global,
     words: &Broker<'a>,
-) -> Result<BrokerOptions, ArgumentError<'a>> {
+) -> Result<BrokerOptions, StartError<'a>>
+    ensures { IfOk result (AreOptionsOf words.now) }
+{
     let listen = address_of(words.listen.unwrap_or(LISTEN))?;
     let metrics = match words.metrics {
         Some(text) => Some(address_of(text)?),
@@ -192,47 +190,101 @@ fn level_of(words: &Broker<'_>) -> LogLevel {
     }
 }
 
+// The file of the log, if there is one.
+fn log_file<'a, R: Files<File = File>>(
+    rt: &R,
+    name: Option<&'a str>,
+) -> Result<Option<File>, StartError<'a>> {
+    let Some(name) = name else {
+        return Ok(None);
+    };
+    match OpenOptions::new().append(true).create(true).open(rt, name) {
+        Ok(file) => Ok(Some(file)),
+        Err(_) => Err(StartError::Log(name)),
+    }
+}
+
+// The broker of the arguments, which is recovered first if it has a folder.
+fn ready_of<'a, R: Clock + Files<File = File>, E: Write>(
+    rt: &R,
+    alloc: Global,
+    words: &Broker<'a>,
+    options: BrokerOptions,
+    errors: &mut E,
+) -> Result<Ready, StartError<'a>>
+    ensures { IfOk result (IsReady words.now.journal options) }
+{
+    let Some(data) = words.journal else {
+        return Ok(Ready::Plain(options));
+    };
+    match recover(rt, alloc, options, data, errors) {
+        Ok(broker) => Ok(Ready::Kept(broker)),
+        Err(error) => Err(StartError::Folder(data.path, error)),
+    }
+}
+
+// Runs a broker with a log.
+fn run_logged<'a, R: Net + Clock, W: Write, L: Write + Drop>(
+    rt: &R,
+    alloc: Global,
+    broker: Ready,
+    output: &mut W,
+    log: L,
+    level: LogLevel,
+) -> Result<BrokerEnd, StartError<'a>>
+    ensures { IfOk result (MayEnd broker) }
+{
+    match BufWriter::new(alloc, log) {
+        Ok(buffer) => Ok(broker.run(rt, alloc, output, Log::new(alloc, buffer, level))),
+        Err(_) => Err(StartError::Memory),
+    }
+}
+
 // Runs the broker, with its log in a file or at `errors`.
-fn run_logged<'a, R, W, E>(
+#[tactic(auto, using(crate::proofs::Ends::ended))]
+fn run_to_end<'a, R, W, E>(
     rt: &R,
     alloc: Global,
     words: &Broker<'a>,
     output: &mut W,
     errors: &mut E,
-) -> Result<BrokerEnd, ArgumentError<'a>>
+) -> Result<BrokerEnd, StartError<'a>>
 where
     R: Net + Clock + Files<File = File>,
     W: Write,
     E: Write + Drop,
+    ensures { IfOk result (IsEnded words.now) }
 {
     let options = options_of(rt, alloc, words)?;
+    let file = log_file(rt, words.log)?;
+    let broker = ready_of(rt, alloc, words, options, errors)?;
     let level = level_of(words);
-    match words.log {
-        None => {
-            let Ok(buffer) = BufWriter::new(alloc, errors) else {
-                return Err(ArgumentError::Memory);
-            };
-            let log = Log::new(alloc, buffer, level);
-            Ok(run_broker(rt, alloc, options, output, log))
-        }
-        Some(name) => {
-            let Ok(file) = OpenOptions::new().append(true).create(true).open(rt, name) else {
-                return Err(ArgumentError::Log(name));
-            };
-            let Ok(buffer) = BufWriter::new(alloc, file) else {
-                return Err(ArgumentError::Memory);
-            };
-            let log = Log::new(alloc, buffer, level);
-            Ok(run_broker(rt, alloc, options, output, log))
-        }
+    match file {
+        Some(file) => run_logged(rt, alloc, broker, output, file, level),
+        None => run_logged(rt, alloc, broker, output, errors, level),
     }
+}
+
+// Says why the broker ended, and what to do if its journal failed.
+fn explain_end<E: Write>(errors: &mut E, words: &Broker<'_>, end: BrokerEnd) {
+    let listen = words.listen.unwrap_or(LISTEN);
+    let _ = match (end, words.journal) {
+        (BrokerEnd::Journal, Some(data)) => writeln!(
+            errors,
+            "mqtt: broker at {listen}: the journal in '{}' cannot be written: the disk is full or failed. No event that it lacks was acknowledged. Free space, and start the broker again",
+            data.path
+        ),
+        (end, _) => writeln!(errors, "mqtt: broker at {listen}: {end}"),
+    };
 }
 
 /// Runs the broker until it is stopped. Writes `listening ADDR:PORT` to `output` and flushes it.
 ///
-/// Writes the log to its file or to `errors`, and the reason of an early end to `errors`. Returns
-/// the status: 2 for an invalid argument, 1 if its listener failed, 3 if an allocation failed, 4 if
-/// the output failed.
+/// With a folder the broker is recovered first, and `errors` gets a line that says so. The log is
+/// written to its file or to `errors`, and the reason of an early end to `errors`. Returns the
+/// status: 2 for an invalid argument, 1 if the listener, the folder or the journal failed, 3 if an
+/// allocation failed, 4 if the output failed.
+#[tactic(auto, using(crate::proofs::Ends::status_of_end, crate::proofs::Ends::status_of_error))]
 pub fn run_broker_command<R, W, E>(
     rt: &R,
     alloc: Global,
@@ -244,11 +296,11 @@ where
     R: Net + Clock + Files<File = File>,
     W: Write,
     E: Write + Drop,
+    ensures { IsBrokerStatus words.now result }
 {
-    match run_logged(rt, alloc, words, output, &mut errors) {
+    match run_to_end(rt, alloc, words, output, &mut errors) {
         Ok(end) => {
-            let listen = words.listen.unwrap_or(LISTEN);
-            let _ = writeln!(errors, "mqtt: broker at {listen}: {end}");
+            explain_end(&mut errors, words, end);
             end.status()
         }
         Err(error) => {

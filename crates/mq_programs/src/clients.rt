@@ -334,6 +334,7 @@ pub fn run_client<R: Net + Clock + Files<File = File>, E: Write, W: Write>(
         Command::Job(_)
         | Command::Serve(_)
         | Command::Broker(_)
+        | Command::Journal(_)
         | Command::Password(_)
         | Command::Loopback(_)
         | Command::Draw(_) => Err(Failure::Words),

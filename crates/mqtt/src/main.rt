@@ -6,7 +6,7 @@ use mq_cli::{
     perform_file,
 };
 use mq_programs::{
-    run_broker_command, run_client, run_draw, run_loopback, run_password, run_serve,
+    run_broker_command, run_client, run_draw, run_journal, run_loopback, run_password, run_serve,
 };
 use std::fs::File;
 use std::io::{BufReader, BufWriter, Input, Write};
@@ -60,6 +60,15 @@ where
     Ok(status)
 }
 
+/// Prints a journal to the standard output through a buffer.
+fn run_listed(rt: &HostRuntime, name: &str) -> Result<u8, Failure> {
+    let alloc = rt.alloc();
+    let mut output = BufWriter::new(alloc, io::writer(rt))?;
+    let status = run_journal(rt, alloc, name, &mut rt.stderr(), &mut output)?;
+    output.flush()?;
+    Ok(status)
+}
+
 /// Replays and draws a schedule, and prints to the standard output through a buffer.
 fn run_drawn(rt: &HostRuntime, draw: Draw<'_>) -> Result<u8, Failure> {
     let alloc = rt.alloc();
@@ -92,6 +101,7 @@ where
             let (output, errors) = (&mut io::writer(rt), rt.stderr());
             Ok(run_broker_command(host, alloc, &words, output, errors))
         }
+        Ok(Command::Journal(name)) => run_listed(rt, name),
         Ok(Command::Password(name)) => {
             let (input, errors) = (&mut rt.reader(), &mut rt.stderr());
             run_password(host, alloc, name, input, errors, &mut io::writer(rt))
