@@ -1,0 +1,16 @@
+//! Networks: connections to one server, and waits between them.
+
+use mq_client::Connection;
+use mq_stream::{Broken, Clock, Stream};
+
+/// Makes connections to one server, and waits between them.
+pub trait Network<S: Stream, C: Clock> {
+    /// Makes a connection.
+    fn dial(&mut self) -> Result<Connection<S, C>, Broken>;
+
+    /// The milliseconds since a fixed instant.
+    fn now(&mut self) -> u64;
+
+    /// Waits this many milliseconds.
+    fn pause(&mut self, milliseconds: u64);
+}
