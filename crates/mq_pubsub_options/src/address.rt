@@ -1,5 +1,8 @@
 //! Addresses of brokers.
 
+ghost use Rattle.std.specs.Prelude.{◌≡◌};
+ghost use Rattle.mq_pubsub_options.specs.Options.{first_of_three};
+
 use crate::fault::OptionFault;
 use crate::values::{owned, said};
 use clap::ArgMatches;
@@ -114,7 +117,9 @@ fn port_in(alloc: Global, text: &str) -> Result<u16, OptionFault> {
 }
 
 // The first of these that is there.
-fn first(option: Option<String>, url: Option<String>, default: Option<String>) -> Option<String> {
+fn first(option: Option<String>, url: Option<String>, default: Option<String>) -> Option<String>
+    ensures { result ≡ first_of_three option url default }
+{
     match option {
         Some(text) => {
             drop(url);

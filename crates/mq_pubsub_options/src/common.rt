@@ -1,8 +1,12 @@
 //! The options that both commands have.
 
+ghost use Rattle.std.specs.Prelude.{codes, IfOk};
+ghost use Rattle.clap.specs.Words.{first_value, found_of};
+ghost use Rattle.mq_pubsub_options.specs.Options.{IsLongestWait, IsWillOf};
+
 use crate::address::{Address, Defaults, address_of};
 use crate::fault::OptionFault;
-use crate::values::{duration_of, name_of, owned, qos_of, said};
+use crate::values::{duration_of, flag_of, name_of, owned, qos_of, said};
 use clap::ArgMatches;
 use mq_topic::{Qos, TopicName};
 use std::alloc::Global;
@@ -56,7 +60,9 @@ pub struct Common {
 }
 
 // The will in the options.
-fn will_of(alloc: Global, matches: &ArgMatches<'_>) -> Result<Option<WillOptions>, OptionFault> {
+fn will_of(alloc: Global, matches: &ArgMatches<'_>) -> Result<Option<WillOptions>, OptionFault>
+    ensures { IfOk result (IsWillOf (found_of matches.now)) }
+{
     let Some(topic) = matches.get_str("WILL_TOPIC") else {
         if matches.contains_id("WILL_PAYLOAD") || matches.get_flag("WILL_RETAIN") {
             return Err(said(
@@ -80,12 +86,14 @@ fn will_of(alloc: Global, matches: &ArgMatches<'_>) -> Result<Option<WillOptions
         topic: name_of(alloc, "--will-topic", topic)?,
         payload,
         qos: qos_of(matches, "WILL_QOS"),
-        retain: matches.get_flag("WILL_RETAIN"),
+        retain: flag_of(matches, "WILL_RETAIN"),
     }))
 }
 
 // The longest wait before a new connection.
-fn longest_wait_of(alloc: Global, matches: &ArgMatches<'_>) -> Result<Option<u64>, OptionFault> {
+fn longest_wait_of(alloc: Global, matches: &ArgMatches<'_>) -> Result<Option<u64>, OptionFault>
+    ensures { IfOk result (IsLongestWait (first_value (found_of matches.now) (codes "RETRY"))) }
+{
     match matches.get_str("RETRY") {
         None => Ok(Some(LONGEST_WAIT)),
         Some("never") => Ok(None),

@@ -1,10 +1,14 @@
 //! The arguments of `mqtt pub`.
 
+ghost use Rattle.std.specs.Prelude.{◌≡◌, codes, map, option_map, string_bytes, IfOk};
+ghost use Rattle.clap.specs.Words.{first_value, found_of};
+ghost use Rattle.mq_pubsub_options.specs.Options.{IsKind, IsTopicOf, texts_of};
+
 use crate::address::Defaults;
 use crate::common::{Common, common_of};
 use crate::fault::OptionFault;
 use crate::grammar::publish_command;
-use crate::values::{all_of, duration_of, name_of, said};
+use crate::values::{all_of, duration_of, flag_of, name_of, said};
 use clap::ArgMatches;
 use mq_topic::TopicName;
 use std::alloc::Global;
@@ -41,13 +45,18 @@ pub struct PublishWords<'a> {
     pub delay: u64,
 }
 
-// The payloads in the options.
-fn payloads_of<'a>(alloc: Global, matches: &ArgMatches<'a>) -> Result<Payloads<'a>, OptionFault> {
-    let texts = all_of(alloc, matches, "TEXT")?;
-    let file = matches.get_str("FILE");
-    let whole = matches.get_flag("WHOLE");
-    let lines = matches.get_flag("LINES");
-    let empty = matches.get_flag("EMPTY");
+// The payloads of the one kind that is there.
+fn payloads_of<'a>(
+    alloc: Global,
+    texts: Vec<&'a str>,
+    file: Option<&'a str>,
+    whole: bool,
+    lines: bool,
+    empty: bool,
+) -> Result<Payloads<'a>, OptionFault>
+    ensures { IfOk result (IsKind (map (λ text. text.now) texts.entry.items)
+        (option_map (λ name. name.now) file.entry) whole lines empty) }
+{
     match (texts.is_empty(), file, whole, lines, empty) {
         (false, None, false, false, false) => Ok(Payloads::Texts(texts)),
         (true, Some(file), false, false, false) => Ok(Payloads::File(file)),
@@ -70,7 +79,10 @@ fn topic_of(
     alloc: Global,
     matches: &ArgMatches<'_>,
     common: &Common,
-) -> Result<TopicName, OptionFault> {
+) -> Result<TopicName, OptionFault>
+    ensures { IfOk result (IsTopicOf (first_value (found_of matches.now) (codes "TOPIC"))
+        (option_map string_bytes common.now.address.topic)) }
+{
     if let Some(text) = matches.get_str("TOPIC") {
         return name_of(alloc, "-t", text);
     }
@@ -96,7 +108,14 @@ pub fn publish_words<'a>(
     };
     let common = common_of(alloc, &matches, defaults)?;
     let topic = topic_of(alloc, &matches, &common)?;
-    let payloads = payloads_of(alloc, &matches)?;
+    let payloads = payloads_of(
+        alloc,
+        all_of(alloc, &matches, "TEXT")?,
+        matches.get_str("FILE"),
+        flag_of(&matches, "WHOLE"),
+        flag_of(&matches, "LINES"),
+        flag_of(&matches, "EMPTY"),
+    )?;
     let repeat: Option<u32> = matches.get_one("REPEAT");
     let delay = duration_of(alloc, &matches, "DELAY", "--delay")?;
     Ok(PublishWords {

@@ -1,5 +1,9 @@
 //! Values of options.
 
+ghost use Rattle.std.specs.Prelude.{◌≡◌, map, option_map, string_bytes, IfOk};
+ghost use Rattle.clap.specs.Words.{first_value, found_of, one_text};
+ghost use Rattle.mq_pubsub_options.specs.Options.{IsFlag, IsTime, texts_of};
+
 use crate::fault::OptionFault;
 use crate::seconds::milliseconds_of;
 use clap::ArgMatches;
@@ -11,7 +15,10 @@ pub(crate) fn owned(
     alloc: Global,
     matches: &ArgMatches<'_>,
     id: &str,
-) -> Result<Option<String>, AllocError> {
+) -> Result<Option<String>, AllocError>
+    ensures { IfOk result (λ text. option_map string_bytes text
+        ≡ first_value (found_of matches.now) id.now) }
+{
     match matches.get_str(id) {
         Some(text) => Ok(Some(String::from_str(alloc, text)?)),
         None => Ok(None),
@@ -23,11 +30,21 @@ pub(crate) fn all_of<'a>(
     alloc: Global,
     matches: &ArgMatches<'a>,
     id: &str,
-) -> Result<Vec<&'a str>, AllocError> {
+) -> Result<Vec<&'a str>, AllocError>
+    ensures { IfOk result (λ texts. map (λ text. text.now) texts.items
+        ≡ texts_of (found_of matches.now) id.now) }
+{
     match matches.get_strs(id) {
         Some(texts) => texts.to_vec(alloc),
         None => Ok(Vec::new(alloc)),
     }
+}
+
+/// Whether a flag was given.
+pub(crate) fn flag_of(matches: &ArgMatches<'_>, id: &str) -> bool
+    ensures { IsFlag (one_text (found_of matches.now) id.now) result }
+{
+    matches.get_flag(id)
 }
 
 /// The quality of service of an option, 0 without one.
@@ -45,7 +62,9 @@ pub(crate) fn duration_of(
     matches: &ArgMatches<'_>,
     id: &str,
     option: &str,
-) -> Result<Option<u64>, OptionFault> {
+) -> Result<Option<u64>, OptionFault>
+    ensures { IfOk result (IsTime (first_value (found_of matches.now) id.now)) }
+{
     let Some(text) = matches.get_str(id) else {
         return Ok(None);
     };
@@ -84,7 +103,9 @@ fn bad_topic(alloc: Global, option: &str, text: &str, fault: TopicFault) -> Opti
 }
 
 /// The topic name of an option.
-pub(crate) fn name_of(alloc: Global, option: &str, text: &str) -> Result<TopicName, OptionFault> {
+pub(crate) fn name_of(alloc: Global, option: &str, text: &str) -> Result<TopicName, OptionFault>
+    ensures { IfOk result (λ name. name ≡ text.now) }
+{
     match TopicName::parse(alloc, text) {
         Ok(name) => Ok(name),
         Err(fault) => Err(bad_topic(alloc, option, text, fault)),
@@ -92,11 +113,9 @@ pub(crate) fn name_of(alloc: Global, option: &str, text: &str) -> Result<TopicNa
 }
 
 /// The topic filter of an option.
-pub(crate) fn filter_of(
-    alloc: Global,
-    option: &str,
-    text: &str,
-) -> Result<TopicFilter, OptionFault> {
+pub(crate) fn filter_of(alloc: Global, option: &str, text: &str) -> Result<TopicFilter, OptionFault>
+    ensures { IfOk result (λ filter. filter ≡ text.now) }
+{
     match TopicFilter::parse(alloc, text) {
         Ok(filter) => Ok(filter),
         Err(fault) => Err(bad_topic(alloc, option, text, fault)),
@@ -108,7 +127,9 @@ pub(crate) fn filters_of(
     alloc: Global,
     option: &str,
     texts: &[&str],
-) -> Result<Vec<TopicFilter>, OptionFault> {
+) -> Result<Vec<TopicFilter>, OptionFault>
+    ensures { IfOk result (λ filters. filters.items ≡ map (λ text. text.now) texts.now) }
+{
     let mut filters = Vec::new(alloc);
     for text in texts {
         let filter = filter_of(alloc, option, text)?;

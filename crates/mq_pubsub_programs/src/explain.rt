@@ -1,5 +1,8 @@
 //! Sentences for standard error.
 
+ghost use Rattle.std.specs.Prelude.{◌≡◌};
+ghost use Rattle.mq_pubsub_programs.specs.Status.{status_of};
+
 use crate::link::NoLink;
 use crate::{FAILED, NO_MEMORY};
 use mq_end::{CloseReason, PublishRefusal};
@@ -80,7 +83,9 @@ impl fmt::Display for Work {
 }
 
 /// The status of a run.
-pub(crate) fn status_of(end: Result<(), RunError>) -> u8 {
+pub(crate) fn status_of(end: Result<(), RunError>) -> u8
+    ensures { result ≡ status_of end }
+{
     match end {
         Ok(()) => 0,
         Err(RunError::TimedOut) => TIMED_OUT,

@@ -1,9 +1,13 @@
 //! The source of the messages of `mqtt pub`.
 
+ghost use Rattle.std.specs.Prelude.{◌≡◌, IfOk};
+ghost use Rattle.mq_pubsub_programs.specs.Feeding.{Supplies};
+
 use crate::explain::Grouped;
+use crate::known::Known;
 use crate::supply::{INPUT, InputLine, InputLines};
 use crate::watch::Watch;
-use mq_packet::{Message, Payload};
+use mq_packet::Message;
 use mq_pubsub::{Next, RunError, Source};
 use mq_topic::{Qos, TopicName};
 use std::alloc::Global;
@@ -18,8 +22,8 @@ const BETWEEN_PROGRESS: u64 = 200;
 /// The payloads of a feed.
 #[derive(Drop)]
 pub(crate) enum Supply {
-    /// These, in order, this many times.
-    Known(Vec<Payload>, u64),
+    /// A list of payloads.
+    Known(Known),
     /// The lines of standard input.
     Lines(InputLines),
 }
@@ -59,28 +63,18 @@ impl<R: Clock + Eprint> Feed<'_, R> {
     // The number of all messages, if it is known.
     fn total(&self) -> Option<u64> {
         match &self.supply {
-            Supply::Known(payloads, repeat) => {
-                let count = u64::try_from(payloads.len()).unwrap_or(u64::MAX);
-                Some(count.saturating_mul(*repeat))
-            }
+            Supply::Known(known) => Some(known.total()),
             Supply::Lines(_) => None,
         }
     }
 
-    // The payload of the message with this number, if there is one.
-    fn payload(&mut self) -> Result<InputLine, RunError> {
+    // The payload of the next message, if there is one.
+    fn payload(&mut self) -> Result<InputLine, RunError>
+        ensures supply { IfOk result (Supplies self.old.supply self.new.supply) }
+        ensures rest { self.new ≡ record self.old { supply = self.new.supply } }
+    {
         match &mut self.supply {
-            Supply::Known(payloads, repeat) => {
-                let count = u64::try_from(payloads.len()).unwrap_or(u64::MAX);
-                if count == 0 || self.taken / count >= *repeat {
-                    return Ok(InputLine::End);
-                }
-                let index = usize::try_from(self.taken % count).unwrap_or(0);
-                match payloads.get(index) {
-                    Some(payload) => Ok(InputLine::Line(payload.clone()?)),
-                    None => Ok(InputLine::End),
-                }
-            }
+            Supply::Known(known) => Ok(known.next()?),
             Supply::Lines(lines) => lines.next(self.alloc),
         }
     }
@@ -102,6 +96,10 @@ impl<R: Clock + Eprint> Feed<'_, R> {
 }
 
 impl<R: Clock + Eprint> Source for Feed<'_, R> {
+    ghost use Rattle.mq_pubsub_programs.specs.Feeding.{given_of};
+
+    ghost given = { λ feed. given_of feed.topic.now feed.qos feed.retain feed.supply };
+
     fn next(&mut self) -> Result<Next, RunError> {
         let left = self.left();
         if left > 0 && self.total() != Some(self.taken) {

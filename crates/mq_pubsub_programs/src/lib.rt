@@ -7,6 +7,7 @@
 mod common;
 mod explain;
 mod feed;
+mod known;
 mod link;
 mod polled;
 mod printing;

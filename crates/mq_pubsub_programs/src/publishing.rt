@@ -1,8 +1,9 @@
 //! The command `mqtt pub`.
 
-use crate::common::{defaults_of, identifier, patience_of, read_file, setup_of, unread};
+use crate::common::{defaults_of, identifier, patience_of, read_file, said, setup_of, unread};
 use crate::explain::{Place, Work, status_of, tell_end};
 use crate::feed::{Feed, Supply};
+use crate::known::Known;
 use crate::link::Link;
 use crate::session::{Session, no_clock};
 use crate::supply::{InputLines, payload_of};
@@ -18,7 +19,7 @@ use mq_topic::Qos;
 use mq_wire::Text;
 use std::alloc::Global;
 use std::fs::File;
-use std::io::{ErrorKind, Input, Read};
+use std::io::{Input, Read};
 use std::net::Net;
 use std::random::RandomSource;
 use std::rt::{Env, Files};
@@ -48,6 +49,21 @@ fn add(alloc: Global, payloads: &mut Vec<Payload>, bytes: &[u8]) -> Result<(), O
     }
 }
 
+// The standard input. An empty one is an error, as for mosquitto_pub.
+fn whole_input<R: Input>(rt: &R, alloc: Global) -> Result<Vec<u8>, OptionFault> {
+    let mut bytes = Vec::new(alloc);
+    if let Err(error) = rt.reader().read_to_end(&mut bytes) {
+        return Err(unread(alloc, "standard input", "-", error.kind()));
+    }
+    if bytes.is_empty() {
+        return Err(said(
+            alloc,
+            "standard input is empty: give -n to publish an empty message",
+        ));
+    }
+    Ok(bytes)
+}
+
 // The payloads that are known at the start, or the lines of standard input.
 fn supply_of<R: Files<File = File> + Input>(
     rt: &R,
@@ -73,14 +89,11 @@ fn supply_of<R: Files<File = File> + Input>(
             Err(error) => return Err(unread(alloc, "the file", name, error.kind())),
         },
         Payloads::Whole => {
-            let mut bytes = Vec::new(alloc);
-            if rt.reader().read_to_end(&mut bytes).is_err() {
-                return Err(unread(alloc, "the input", "-", ErrorKind::Other));
-            }
+            let bytes = whole_input(rt, alloc)?;
             add(alloc, &mut payloads, bytes.as_slice())?;
         }
     }
-    Ok(Supply::Known(payloads, u64::from(words.repeat)))
+    Ok(Supply::Known(Known::new(payloads, u64::from(words.repeat))))
 }
 
 // How the session of a run begins and ends.
