@@ -1,7 +1,8 @@
 //! Addresses of brokers.
 
-ghost use Rattle.std.specs.Prelude.{◌≡◌};
-ghost use Rattle.mq_pubsub_options.specs.Options.{first_of_three};
+ghost use Rattle.std.specs.Prelude.{◌≡◌, codes, option_map, string_bytes, IfOk};
+ghost use Rattle.clap.specs.Words.{found_of};
+ghost use Rattle.mq_pubsub_options.specs.Options.{IsLoginPart, first_of_three};
 
 use crate::fault::OptionFault;
 use crate::values::{owned, said};
@@ -173,7 +174,13 @@ pub(crate) fn address_of(
     alloc: Global,
     matches: &ArgMatches<'_>,
     defaults: Defaults,
-) -> Result<Address, OptionFault> {
+) -> Result<Address, OptionFault>
+    ensures user { IfOk result (λ address. IsLoginPart (found_of matches.now) (codes "USER")
+        (option_map string_bytes defaults.user) (option_map string_bytes address.user)) }
+    ensures password { IfOk result (λ address. IsLoginPart (found_of matches.now)
+        (codes "PASSWORD") (option_map string_bytes defaults.password)
+        (option_map string_bytes address.password)) }
+{
     let parts = match matches.get_str("URL") {
         Some(text) => parts_of(alloc, text)?,
         None => Parts {

@@ -2,7 +2,7 @@
 
 ghost use Rattle.std.specs.Prelude.{codes, IfOk};
 ghost use Rattle.clap.specs.Words.{first_value, found_of};
-ghost use Rattle.mq_pubsub_options.specs.Options.{IsLongestWait, IsWillOf};
+ghost use Rattle.mq_pubsub_options.specs.Options.{IsCommon, IsLongestWait, IsWillOf};
 
 use crate::address::{Address, Defaults, address_of};
 use crate::fault::OptionFault;
@@ -106,7 +106,9 @@ pub(crate) fn common_of(
     alloc: Global,
     matches: &ArgMatches<'_>,
     defaults: Defaults,
-) -> Result<Common, OptionFault> {
+) -> Result<Common, OptionFault>
+    ensures { IfOk result (IsCommon (found_of matches.now)) }
+{
     let address = address_of(alloc, matches, defaults)?;
     let session = owned(alloc, matches, "SESSION")?;
     let keep_alive: Option<u16> = matches.get_one("KEEP_ALIVE");
@@ -117,13 +119,13 @@ pub(crate) fn common_of(
         address,
         password_file: owned(alloc, matches, "PASSWORD_FILE")?,
         id: owned(alloc, matches, "ID")?,
-        keeps: matches.get_flag("KEEP") || session.is_some(),
+        keeps: session.is_some() || flag_of(matches, "KEEP"),
         session,
         keep_alive: keep_alive.unwrap_or(KEEP_ALIVE),
         will,
         qos: qos_of(matches, "QOS"),
-        debug: matches.get_flag("DEBUG"),
-        quiet: matches.get_flag("QUIET"),
+        debug: flag_of(matches, "DEBUG"),
+        quiet: flag_of(matches, "QUIET"),
         timeout,
         longest_wait,
     })

@@ -270,6 +270,12 @@ fn with_choice<'a>(command: Command<'a>, alloc: Global) -> Result<Command<'a>, A
         alloc,
         both_row("EXCLUDED", 'T', "filter-out", "FILTER", help),
     )?;
+    let help = "Unsubscribes from this filter; may be repeated";
+    let command = texts(
+        command,
+        alloc,
+        both_row("GIVEN_UP", 'U', "unsubscribe", "FILTER", help),
+    )?;
     let help = "Ends after this many messages";
     let count = Row {
         id: "COUNT",

@@ -2,7 +2,8 @@
 
 ghost use Rattle.std.specs.Prelude.{◌≡◌, codes, map, option_map, string_bytes, IfOk};
 ghost use Rattle.clap.specs.Words.{first_value, found_of};
-ghost use Rattle.mq_pubsub_options.specs.Options.{IsKind, IsTopicOf, texts_of};
+ghost use Rattle.clap.specs.declared.parser.matches.Found.{Found};
+ghost use Rattle.mq_pubsub_options.specs.Options.{IsKind, IsPublish, IsTopicOf};
 
 use crate::address::Defaults;
 use crate::common::{Common, common_of};
@@ -92,12 +93,44 @@ fn topic_of(
     }
 }
 
+// The arguments that the parser matched.
+fn matched<'a>(
+    alloc: Global,
+    matches: &ArgMatches<'a>,
+    defaults: Defaults,
+) -> Result<PublishWords<'a>, OptionFault>
+    ensures { IfOk result (IsPublish (found_of matches.now)) }
+{
+    let common = common_of(alloc, matches, defaults)?;
+    let topic = topic_of(alloc, matches, &common)?;
+    let payloads = payloads_of(
+        alloc,
+        all_of(alloc, matches, "TEXT")?,
+        matches.get_str("FILE"),
+        flag_of(matches, "WHOLE"),
+        flag_of(matches, "LINES"),
+        flag_of(matches, "EMPTY"),
+    )?;
+    let repeat: Option<u32> = matches.get_one("REPEAT");
+    let delay = duration_of(alloc, matches, "DELAY", "--delay")?;
+    Ok(PublishWords {
+        common,
+        topic,
+        payloads,
+        retain: flag_of(matches, "RETAIN"),
+        repeat: repeat.unwrap_or(1),
+        delay: delay.unwrap_or(0),
+    })
+}
+
 /// Reads the arguments of `mqtt pub`, without the name of the program and of the command.
 pub fn publish_words<'a>(
     alloc: Global,
     words: &'a [&'a str],
     defaults: Defaults,
-) -> Result<PublishWords<'a>, OptionFault> {
+) -> Result<PublishWords<'a>, OptionFault>
+    ensures { IfOk result (λ own. (given : Found) × IsPublish given own) }
+{
     let command = publish_command(alloc)?.no_binary_name(true);
     let matches = match command.try_get_matches_from(words) {
         Ok(matches) => matches,
@@ -106,24 +139,5 @@ pub fn publish_words<'a>(
             return Err(OptionFault::from(error));
         }
     };
-    let common = common_of(alloc, &matches, defaults)?;
-    let topic = topic_of(alloc, &matches, &common)?;
-    let payloads = payloads_of(
-        alloc,
-        all_of(alloc, &matches, "TEXT")?,
-        matches.get_str("FILE"),
-        flag_of(&matches, "WHOLE"),
-        flag_of(&matches, "LINES"),
-        flag_of(&matches, "EMPTY"),
-    )?;
-    let repeat: Option<u32> = matches.get_one("REPEAT");
-    let delay = duration_of(alloc, &matches, "DELAY", "--delay")?;
-    Ok(PublishWords {
-        common,
-        topic,
-        payloads,
-        retain: matches.get_flag("RETAIN"),
-        repeat: repeat.unwrap_or(1),
-        delay: delay.unwrap_or(0),
-    })
+    matched(alloc, &matches, defaults)
 }

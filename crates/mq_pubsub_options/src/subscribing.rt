@@ -1,10 +1,15 @@
 //! The arguments of `mqtt sub`.
 
+ghost use Rattle.std.specs.Prelude.{◌≡◌, codes, option_map, string_bytes, IfOk};
+ghost use Rattle.clap.specs.Words.{found_of};
+ghost use Rattle.clap.specs.declared.parser.matches.Found.{Found};
+ghost use Rattle.mq_pubsub_options.specs.Options.{IsSubscribe, filters_of, texts_of};
+
 use crate::address::Defaults;
 use crate::common::{Common, common_of};
 use crate::fault::OptionFault;
 use crate::grammar::subscribe_command;
-use crate::values::{all_of, filter_of, filters_of, said};
+use crate::values::{all_of, filter_of, filters_of, flag_of, said};
 use clap::ArgMatches;
 use mq_format::{Format, FormatFault, Style};
 use mq_topic::TopicFilter;
@@ -17,6 +22,8 @@ pub struct SubscribeWords {
     pub common: Common,
     /// The filters to subscribe to.
     pub filters: Vec<TopicFilter>,
+    /// The filters to unsubscribe from.
+    pub given_up: Vec<TopicFilter>,
     /// Messages whose topic matches one of these are not printed.
     pub excluded: Vec<TopicFilter>,
     /// The number of messages to print before the end.
@@ -67,7 +74,11 @@ fn topics_of(
     alloc: Global,
     matches: &ArgMatches<'_>,
     common: &Common,
-) -> Result<Vec<TopicFilter>, OptionFault> {
+) -> Result<Vec<TopicFilter>, OptionFault>
+    ensures { IfOk result (λ filters. filters.items
+        ≡ filters_of (texts_of (found_of matches.now) (codes "TOPIC"))
+        (option_map string_bytes common.now.address.topic)) }
+{
     let mut filters = filters_of(alloc, "-t", all_of(alloc, matches, "TOPIC")?.as_slice())?;
     if let Some(text) = &common.address.topic {
         if filters
@@ -77,10 +88,45 @@ fn topics_of(
             return Err(OptionFault::Memory);
         }
     }
-    if filters.is_empty() {
+    Ok(filters)
+}
+
+// The arguments that the parser matched.
+fn matched(
+    alloc: Global,
+    matches: &ArgMatches<'_>,
+    defaults: Defaults,
+) -> Result<SubscribeWords, OptionFault>
+    ensures { IfOk result (IsSubscribe (found_of matches.now)) }
+{
+    let common = common_of(alloc, matches, defaults)?;
+    let filters = topics_of(alloc, matches, &common)?;
+    let given_up = all_of(alloc, matches, "GIVEN_UP")?;
+    let given_up = filters_of(alloc, "-U", given_up.as_slice())?;
+    if filters.is_empty() && given_up.is_empty() {
         return Err(said(alloc, "there is no topic to subscribe to: give -t FILTER"));
     }
-    Ok(filters)
+    let (skips_retained, only_retained) = (flag_of(matches, "FRESH"), flag_of(matches, "RETAINED"));
+    if skips_retained && only_retained {
+        return Err(said(
+            alloc,
+            "-R and --retained-only together print nothing: give only one of them",
+        ));
+    }
+    let excluded = all_of(alloc, matches, "EXCLUDED")?;
+    let count: Option<u64> = matches.get_one("COUNT");
+    Ok(SubscribeWords {
+        common,
+        filters,
+        given_up,
+        excluded: filters_of(alloc, "-T", excluded.as_slice())?,
+        count,
+        skips_retained,
+        only_retained,
+        ends_when_granted: flag_of(matches, "GRANTED"),
+        style: style_of(alloc, matches)?,
+        has_line_end: !matches.get_flag("BARE"),
+    })
 }
 
 /// Reads the arguments of `mqtt sub`, without the name of the program and of the command.
@@ -88,7 +134,9 @@ pub fn subscribe_words(
     alloc: Global,
     words: &[&str],
     defaults: Defaults,
-) -> Result<SubscribeWords, OptionFault> {
+) -> Result<SubscribeWords, OptionFault>
+    ensures { IfOk result (λ own. (given : Found) × IsSubscribe given own) }
+{
     let command = subscribe_command(alloc)?.no_binary_name(true);
     let matches = match command.try_get_matches_from(words) {
         Ok(matches) => matches,
@@ -97,26 +145,5 @@ pub fn subscribe_words(
             return Err(OptionFault::from(error));
         }
     };
-    let common = common_of(alloc, &matches, defaults)?;
-    let filters = topics_of(alloc, &matches, &common)?;
-    let (skips_retained, only_retained) = (matches.get_flag("FRESH"), matches.get_flag("RETAINED"));
-    if skips_retained && only_retained {
-        return Err(said(
-            alloc,
-            "-R and --retained-only together print nothing: give only one of them",
-        ));
-    }
-    let excluded = all_of(alloc, &matches, "EXCLUDED")?;
-    let count: Option<u64> = matches.get_one("COUNT");
-    Ok(SubscribeWords {
-        common,
-        filters,
-        excluded: filters_of(alloc, "-T", excluded.as_slice())?,
-        count,
-        skips_retained,
-        only_retained,
-        ends_when_granted: matches.get_flag("GRANTED"),
-        style: style_of(alloc, &matches)?,
-        has_line_end: !matches.get_flag("BARE"),
-    })
+    matched(alloc, &matches, defaults)
 }

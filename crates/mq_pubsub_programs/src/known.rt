@@ -1,6 +1,6 @@
 //! Payloads that are known before the first one is published.
 
-ghost use Rattle.std.specs.Prelude.{◌≡◌, ◌⊎◌, ◌++◌, ◌<◌, ◌≤◌, [], ◌∷◌, slice_index, vec_len, IfOk, OnErr};
+ghost use Rattle.std.specs.Prelude.{◌≡◌, ◌⊎◌, ◌++◌, ◌<◌, ◌≤◌, [], ◌∷◌, get_or, vec_len, IfOk, OnErr};
 ghost use Rattle.mq_pubsub_programs.specs.Feeding.{EndsWith, payloads_in, taken_payloads};
 
 use crate::supply::InputLine;
@@ -49,7 +49,7 @@ impl Known {
         requires within { self.old.index < vec_len self.old.payloads }
         requires more { self.old.rounds < self.old.repeat }
         ensures taken { taken_payloads self.new
-            ≡ taken_payloads self.old ++ slice_index self.old.payloads.items self.old.index ∷ [] }
+            ≡ taken_payloads self.old ++ get_or self.old.payloads.items self.old.index [] ∷ [] }
         ensures payloads { self.new.payloads ≡ self.old.payloads }
         ensures repeat { self.new.repeat ≡ self.old.repeat }
     {
@@ -70,16 +70,11 @@ impl Known {
         ensures repeat { self.new.repeat ≡ self.old.repeat }
         ensures err { OnErr result (taken_payloads self.new ≡ taken_payloads self.old) }
     {
-        if self.rounds >= self.repeat {
+        if self.rounds >= self.repeat || self.index >= self.payloads.len() {
             return Ok(InputLine::End);
         }
-        match self.payloads.get(self.index) {
-            Some(payload) => {
-                let payload = payload.clone()?;
-                self.advance();
-                Ok(InputLine::Line(payload))
-            }
-            None => Ok(InputLine::End),
-        }
+        let payload = self.payloads[self.index].clone()?;
+        self.advance();
+        Ok(InputLine::Line(payload))
     }
 }

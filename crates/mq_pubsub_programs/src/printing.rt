@@ -1,5 +1,8 @@
 //! The lines of `mqtt sub`.
 
+ghost use Rattle.std.specs.Prelude.{OnOk};
+ghost use Rattle.std.specs.Io.KnownBytes.{Appends};
+
 use mq_format::{Envelope, Moment, Style};
 use mq_packet::{Message, PacketId, Request};
 use mq_pubsub::{Notice, Printer, RunError};
@@ -33,6 +36,17 @@ fn moment_of<R: Clock>(rt: &R) -> Moment {
     }
 }
 
+// Writes a line, and flushes.
+fn write_line<W: Write>(output: &mut W, line: &[u8]) -> Result<(), RunError>
+    ensures { OnOk result
+        (Appends (W.contents output.old) (W.contents output.new) line.now) }
+{
+    if write_bytes(output, line, &mut OnInterrupt).is_err() || output.flush().is_err() {
+        return Err(RunError::Output);
+    }
+    Ok(())
+}
+
 impl<R: Clock + Print + Eprint> Printer for Lines<'_, R> {
     fn print(&mut self, message: &Message, id: Option<PacketId>) -> Result<(), RunError> {
         let envelope = Envelope {
@@ -41,13 +55,7 @@ impl<R: Clock + Print + Eprint> Printer for Lines<'_, R> {
             moment: moment_of(self.rt),
         };
         let line = self.style.line(self.alloc, &envelope, self.has_line_end)?;
-        let mut output = io::writer(self.rt);
-        if write_bytes(&mut output, line.as_slice(), &mut OnInterrupt).is_err() {
-            return Err(RunError::Output);
-        }
-        if output.flush().is_err() {
-            return Err(RunError::Output);
-        }
+        write_line(&mut io::writer(self.rt), line.as_slice())?;
         self.printed = self.printed.saturating_add(1);
         Ok(())
     }

@@ -12,6 +12,7 @@ use mq_packet::{NonEmpty, Request};
 use mq_pubsub::{Choice, Retry, RunError, Setup, SubscribeOptions};
 use mq_pubsub_options::{OptionFault, SubscribeWords, subscribe_words};
 use mq_pubsub_runs::subscribe;
+use mq_topic::TopicFilter;
 use mq_wire::Text;
 use std::alloc::Global;
 use std::fs::File;
@@ -47,6 +48,24 @@ fn requests_of(
         None
     } else {
         Some(NonEmpty::from_vec(requests))
+    })
+}
+
+// The subscriptions to give up.
+fn given_up_of(
+    alloc: Global,
+    words: &SubscribeWords,
+) -> Result<Option<NonEmpty<TopicFilter>>, OptionFault> {
+    let mut filters = Vec::new(alloc);
+    for filter in words.given_up.as_slice() {
+        if filters.push(filter.clone()?).is_err() {
+            return Err(OptionFault::Memory);
+        }
+    }
+    Ok(if filters.is_empty() {
+        None
+    } else {
+        Some(NonEmpty::from_vec(filters))
     })
 }
 
@@ -92,9 +111,11 @@ where
     let common = &words.common;
     let setup = setup_of(rt, alloc, common, id)?;
     let requests = requests_of(alloc, words)?;
+    let given_up = given_up_of(alloc, words)?;
     let Ok(start) = Instant::now(rt) else {
         drop(setup);
         drop(requests);
+        drop(given_up);
         return Err(no_clock(alloc));
     };
     let watch = Watch::new();
@@ -111,7 +132,7 @@ where
     };
     let options = SubscribeOptions {
         requests: requests.as_ref(),
-        given_up: None,
+        given_up: given_up.as_ref(),
         choice: Choice {
             skips_retained: words.skips_retained,
             only_retained: words.only_retained,
