@@ -1,19 +1,22 @@
 -- The work of a publisher, part after part.
-use Rattle.std.proofs.Common.{◌≡◌, ℕ, Bool, true, List, [], ◌∷◌, ◌++◌, map, Option, Some, None, Result, Ok, Err, refl, sym, ap, subst, ◌∙◌, append-nil, append_assoc, option_to_list, OnErr, OnOk, IfErr, ⊤}
+use Rattle.std.proofs.Common.{◌≡◌, ℕ, Bool, true, false, List, [], ◌∷◌, ◌++◌, map, Option, Some, None, Result, Ok, Err, refl, sym, ap, subst, ◌∙◌, append-nil, append_assoc, option_to_list, OnErr, OnOk, IfErr}
+use Rattle.std.specs.Bool.{⊤}
 use Rattle.std.proofs.lemmas.List.{map-append}
-use Rattle.std.proofs.lemmas.Grind.{filter-append}
+use Rattle.std.proofs.lemmas.List.Elements.{filter-append}
 use Rattle.std.specs.Io.KnownBytes.{Appends}
 use Rattle.mq_packet.specs.declared.message.Message.{Message}
 use Rattle.mq_end.specs.declared.happening.Happening.{Happening}
 use Rattle.mq_end.specs.declared.reason.CloseReason.{CloseReason}
+use Rattle.mq_end.specs.Publishing.{ClientState}
 use Rattle.mq_client.specs.Course.{IsIdle, Leaves, Moment, Opening, Publication, Went, WentFirst}
 use Rattle.mq_client.proofs.Courses.{went_none, went_still, went_then}
+use Rattle.mq_pubsub.specs.declared.error.RunError.{RunError}
 use Rattle.mq_pubsub.specs.Printing.{Shows}
 use Rattle.mq_pubsub.proofs.Shown.{Shows-append, Shows-none}
 use Rattle.mq_pubsub_runs.specs.declared.stop.Stop.{Stop}
 use Rattle.mq_pubsub_runs.specs.declared.stop.Stop.TheVariants.{Connection, Application}
-use Rattle.mq_pubsub_runs.specs.Stops.{IsConnection}
-use Rattle.mq_pubsub_runs.specs.Posting.{AllPosted, Fills, Finishes, PartPosted, Posted, Progress, ProgressUntil, Publishes, Sent, StartsWith, is_q0, unstored}
+use Rattle.mq_pubsub_runs.specs.Stops.{IsBroken, IsConnection, IsErr, IsOk}
+use Rattle.mq_pubsub_runs.specs.Posting.{AllPosted, Fills, Finishes, PartPosted, Posted, Progress, ProgressUntil, PublishEnds, Publishes, Sent, StartsWith, is_q0, unstored}
 use Rattle.mq_pubsub_runs.specs.Posting.Posted.{Begins, Opens, Sends, Breaks, Hears, Continues}
 
 -- ---- what was published
@@ -258,6 +261,91 @@ part_of_until (Connection error) a b next later lost missing given taken p = par
 part_of_until (Application error) a b next later lost missing given taken p = p
 
 -- a new connection continues with the session
-pub progress_continues : (a b c : Moment) (next later : Option Message) (lost missing : ℕ) (given taken : Option (List Message)) → Progress a b next later lost missing given taken
+progress_continues : (a b c : Moment) (next later : Option Message) (lost missing : ℕ) (given taken : Option (List Message)) → Progress a b next later lost missing given taken
     → c.client ≡ b.client → c.kept ≡ b.kept → Progress a c next later lost missing given taken
 progress_continues a b c next later lost missing given taken p client kept = progress_on a b c next later lost missing given taken p (Continues b c [] [] Begins client kept)
+
+-- ---- the end of the work over a connection
+
+-- the client left, if it could
+pub left_ends : (r : Result ⊤ Stop) (a b c : Moment) (next later : Option Message) (lost missing : ℕ) (given taken : Option (List Message)) → Progress a b next later lost missing given taken
+    → later ≡ None → IsIdle b.client.link.end → OnOk r (Leaves b c) → OnOk r (missing ≡ 0) → Posted b c [] [] → IfErr r IsConnection → PublishEnds a c next later lost missing given taken r
+left_ends (Ok done) a b c next later lost missing given taken p none idle leaves whole posted is = finishes a b c next later lost missing given taken p none whole idle leaves posted
+left_ends (Err stop) a b c next later lost missing given taken p none idle leaves whole posted is =
+    until_connection stop a c next later lost missing given taken is (progress_on a b c next later lost missing given taken p posted)
+
+ends_then : (r : Result ⊤ Stop) (a b c : Moment) (next mid later : Option Message) (lost some missing : ℕ) (given more taken : Option (List Message))
+    → Progress a b next mid lost some given more → PublishEnds b c mid later some missing more taken r → PublishEnds a c next later lost missing given taken r
+ends_then (Ok done) a b c next mid later lost some missing given more taken p e = finishes_then a b c next mid lost some given more taken p e
+ends_then (Err stop) a b c next mid later lost some missing given more taken p e = until_then stop a b c next mid later lost some missing given more taken p e
+
+-- ---- one connection after another
+
+-- a client and its stored session between two connections
+pub resting : (client : ClientState) (kept : Option (List ℕ)) → (a : Moment) × StartsWith a client kept
+resting client kept = (
+  record { client = client; coming = None; written = None; kept = kept; times = None; line = record { closed = false; quiet = 0; limit = 0 } },
+  record { client_is = refl; kept_is = refl },
+)
+
+-- The run so far began with one client and stored session, and another client and stored session
+-- are left.
+abbrev pub PostedSoFar : ClientState → Option (List ℕ) → ClientState → Option (List ℕ) → Option Message → ℕ → Option (List Message) → Option (List Message) → Type 0
+PostedSoFar client kept new saved later missing given taken =
+    (a : Moment) × (b : Moment) × StartsWith a client kept × StartsWith b new saved × Progress a b None later 0 missing given taken
+
+-- the same after a connection whose work ended like this
+abbrev pub PostedOnce : ClientState → Option (List ℕ) → ClientState → Option (List ℕ) → Option Message → Option Message → ℕ → ℕ → Option (List Message) → Option (List Message) → Result ⊤ Stop → Type 0
+PostedOnce client kept new saved next later lost missing given taken end =
+    (a : Moment) × (b : Moment) × StartsWith a client kept × StartsWith b new saved × PublishEnds a b next later lost missing given taken end
+
+pub far_none : (client : ClientState) (kept : Option (List ℕ)) (later : Option Message) (missing : ℕ) (given : Option (List Message)) → later ≡ None → missing ≡ 0
+    → PostedSoFar client kept client kept later missing given given
+far_none client kept later missing given none whole =
+    let a = resting client kept in
+    let p : Progress a.0 a.0 None later 0 missing given given =
+    subst (λ n. Progress a.0 a.0 None later 0 n given given) (sym whole) (subst (λ m. Progress a.0 a.0 None m 0 0 given given) (sym none) (progress_none a.0 None 0 given)) in
+    (a.0, a.0, a.1, a.1, p)
+
+-- no connection was made
+pub once_missed : (stop : Stop) (client : ClientState) (kept : Option (List ℕ)) (next : Option Message) (lost : ℕ) (given : Option (List Message)) → IsConnection stop
+    → PostedOnce client kept client kept next next lost lost given given (Err stop)
+once_missed stop client kept next lost given is =
+    let a = resting client kept in
+    (a.0, a.0, a.1, a.1, until_connection stop a.0 a.0 next next lost lost given given is (progress_none a.0 next lost given))
+
+pub far_once : (end : Result ⊤ Stop) (c d e : ClientState) (k l m : Option (List ℕ)) (mid later : Option Message) (some missing : ℕ) (given more taken : Option (List Message))
+    → PostedSoFar c k d l mid some given more → PostedOnce d l e m mid later some missing more taken end → PostedOnce c k e m None later 0 missing given taken end
+far_once end c d e k l m mid later some missing given more taken far once =
+    let client : once.0.client ≡ far.1.client = once.2.client_is ∙ sym far.3.client_is in
+    let kept : once.0.kept ≡ far.1.kept = once.2.kept_is ∙ sym far.3.kept_is in
+    let p : Progress far.0 once.0 None mid 0 some given more = progress_continues far.0 far.1 once.0 None mid 0 some given more far.4 client kept in
+    (far.0, once.1, far.2, once.3, ends_then end far.0 once.0 once.1 None mid later 0 some missing given more taken p once.4)
+
+-- a new connection may succeed
+pub far_on : (end : Result ⊤ Stop) (c d : ClientState) (k l : Option (List ℕ)) (later : Option Message) (missing : ℕ) (given taken : Option (List Message)) → IsBroken end
+    → PostedOnce c k d l None later 0 missing given taken end → PostedSoFar c k d l later missing given taken
+far_on (Ok done) c d k l later missing given taken is once = absurd is
+far_on (Err (Connection error)) c d k l later missing given taken is once = once
+far_on (Err (Application error)) c d k l later missing given taken is once = absurd is
+
+-- ---- the end of a run
+
+pub run_ok : (final : Result ⊤ RunError) (end : Result ⊤ Stop) (c d : ClientState) (k l : Option (List ℕ)) (later : Option Message) (missing : ℕ) (given taken : Option (List Message))
+    → OnOk final (IsOk end) → PostedOnce c k d l None later 0 missing given taken end
+    → OnOk final ((a : Moment) × (b : Moment) × StartsWith a c k × StartsWith b d l × AllPosted a b given taken)
+run_ok (Ok done) (Ok through) c d k l later missing given taken is once = (once.0, once.1, once.2, once.3, all_posted once.0 once.1 0 given taken once.4)
+run_ok (Ok done) (Err stop) c d k l later missing given taken is once = absurd is
+run_ok (Err error) end c d k l later missing given taken is once = tt
+
+pub run_err : (final : Result ⊤ RunError) (end : Result ⊤ Stop) (c d : ClientState) (k l : Option (List ℕ)) (later : Option Message) (missing : ℕ) (given taken : Option (List Message))
+    → OnErr final (IsErr end) → PostedOnce c k d l None later 0 missing given taken end
+    → OnErr final ((a : Moment) × (b : Moment) × StartsWith a c k × StartsWith b d l × PartPosted a b)
+run_err (Ok done) end c d k l later missing given taken is once = tt
+run_err (Err error) (Ok through) c d k l later missing given taken is once = absurd is
+run_err (Err error) (Err stop) c d k l later missing given taken is once =
+    (once.0, once.1, once.2, once.3, part_of_until stop once.0 once.1 None later 0 missing given taken once.4)
+
+pub run_part : (c d : ClientState) (k l : Option (List ℕ)) (later : Option Message) (missing : ℕ) (given taken : Option (List Message)) → PostedSoFar c k d l later missing given taken
+    → (a : Moment) × (b : Moment) × StartsWith a c k × StartsWith b d l × PartPosted a b
+run_part c d k l later missing given taken far = (far.0, far.1, far.2, far.3, part_of_progress far.0 far.1 None later 0 missing given taken far.4)

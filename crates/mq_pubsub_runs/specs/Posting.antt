@@ -1,5 +1,5 @@
 -- What a publisher does, over one connection after another.
-use Rattle.std.specs.Prelude.{◌≡◌, ℕ, Bool, true, false, List, [], ◌∷◌, ◌++◌, map, Option, Some, None, option_to_list}
+use Rattle.std.specs.Prelude.{◌≡◌, ⊤, ℕ, Bool, true, false, List, [], ◌∷◌, ◌++◌, map, Option, Some, None, Result, Ok, Err, option_to_list}
 use Rattle.std.specs.List.{filter}
 use Rattle.std.specs.Io.KnownBytes.{Appends}
 use Rattle.mq_topic.specs.declared.qos.Qos.{Qos}
@@ -98,6 +98,11 @@ pub record Finishes (a b : Moment) (next : Option Message) (lost : ℕ) (given t
   pub idle : IsIdle last.client.link.end
   pub leaves : Leaves last b
   pub whole : Posted last b [] []
+
+-- The work over a connection is done, or it ended early.
+abbrev pub PublishEnds : Moment → Moment → Option Message → Option Message → ℕ → ℕ → Option (List Message) → Option (List Message) → Result ⊤ Stop → Type 0
+PublishEnds a b next later lost missing given taken (Ok done) = Finishes a b next lost given taken
+PublishEnds a b next later lost missing given taken (Err stop) = ProgressUntil a b next later lost missing given taken stop
 
 -- A client and its stored session, at a moment.
 pub record StartsWith (a : Moment) (client : ClientState) (kept : Option (List ℕ)) : Type 0 where

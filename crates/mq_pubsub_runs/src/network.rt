@@ -5,7 +5,8 @@ use mq_stream::{Broken, Clock, Stream};
 
 /// Makes connections to one server, and waits between them.
 pub trait Network<S: Stream, C: Clock> {
-    /// Makes a connection.
+    /// Makes a connection. A run never takes a quiet connection for a loss: the stream must fail
+    /// once it has been quiet for too long, if that is wanted.
     fn dial(&mut self) -> Result<Connection<S, C>, Broken>;
 
     /// The milliseconds since a fixed instant.

@@ -84,6 +84,8 @@ impl<S: Stream> Stream for PacketStream<S> {
 
     ghost written = { λ s. S.written s.inner };
 
+    ghost closed = { λ s. S.closed s.inner };
+
     fn read(&mut self, buffer: &mut [u8]) -> ReadOutcome {
         let wanted = self.header.wanted(buffer.len());
         let outcome = self.inner.read(&mut buffer[..wanted]);

@@ -3,7 +3,7 @@
 ghost use Rattle.std.specs.Prelude.{◌≡◌, [], None, true, IfErr, IfOk, OnErr, OnOk};
 ghost use Rattle.mq_end.specs.End.{is_up};
 ghost use Rattle.mq_client.specs.Course.{IsIdle, Leaves, Moment};
-ghost use Rattle.mq_pubsub_runs.specs.Posting.{AllPosted, Finishes, PartPosted, Posted, Progress, ProgressUntil, StartsWith};
+ghost use Rattle.mq_pubsub_runs.specs.Posting.{AllPosted, PartPosted, Posted, Progress, ProgressUntil, PublishEnds, StartsWith};
 ghost use Rattle.mq_pubsub_runs.specs.Stops.{IsConnection};
 
 use crate::network::Network;
@@ -47,6 +47,13 @@ struct Sitting<K: SessionSaver> {
     end: Result<(), Stop>,
 }
 
+// Whether a connection discards the session: only if it has no unacknowledged message.
+fn may_discard<S: Stream, C: Clock, K: SessionSaver>(peer: &Peer<S, C, K>, clean: bool) -> bool
+    ensures { result ≡ true → IsIdle peer.now.client.link.end }
+{
+    clean && peer.is_idle()
+}
+
 // Begins a connection.
 fn open<S: Stream, C: Clock, K: SessionSaver>(
     peer: &mut Peer<S, C, K>,
@@ -55,7 +62,7 @@ fn open<S: Stream, C: Clock, K: SessionSaver>(
     ensures posted { Posted peer.old peer.new [] [] }
     ensures stop { IfErr result IsConnection }
 {
-    let clean = clean && peer.is_idle();
+    let clean = may_discard(peer, clean);
     peer.open(clean)?;
     Ok(())
 }
@@ -68,9 +75,10 @@ fn listen<S: Stream, C: Clock, K: SessionSaver>(
     ensures posted { Posted peer.old peer.new [] [] }
     ensures stop { IfErr result IsConnection }
 {
-    if filled != Filled::Enough {
-        peer.listen()?;
+    if filled == Filled::Enough {
+        return Ok(());
     }
+    peer.listen()?;
     Ok(())
 }
 
@@ -129,10 +137,8 @@ fn publish_over<S: Stream, C: Clock, K: SessionSaver, N: Network<S, C>, M: Sourc
     clean: bool,
     redial: &mut Redial,
 ) -> Result<(), Stop>
-    ensures ok { OnOk result (Finishes peer.old peer.new outbox.old.next
-        outbox.old.lost (M.given source.old) (M.given source.new)) }
-    ensures err { IfErr result (ProgressUntil peer.old peer.new outbox.old.next outbox.new.next
-        outbox.old.lost outbox.new.lost (M.given source.old) (M.given source.new)) }
+    ensures { PublishEnds peer.old peer.new outbox.old.next outbox.new.next
+        outbox.old.lost outbox.new.lost (M.given source.old) (M.given source.new) result }
 {
     open(peer, clean)?;
     for _ in 0..u64::MAX {
@@ -161,15 +167,11 @@ fn publish_once<S: Stream + Drop, C: Clock + Drop, K: SessionSaver, N: Network<S
     clean: bool,
     redial: &mut Redial,
 ) -> Sitting<K>
-    ensures ok { OnOk result.end ((a : Moment) × (b : Moment)
+    ensures { (a : Moment) × (b : Moment)
         × StartsWith a sitting.client (K.kept sitting.keeper)
         × StartsWith b result.client (K.kept result.keeper)
-        × Finishes a b outbox.old.next outbox.old.lost (M.given source.old) (M.given source.new)) }
-    ensures err { IfErr result.end (λ stop. (a : Moment) × (b : Moment)
-        × StartsWith a sitting.client (K.kept sitting.keeper)
-        × StartsWith b result.client (K.kept result.keeper)
-        × ProgressUntil a b outbox.old.next outbox.new.next outbox.old.lost outbox.new.lost
-        (M.given source.old) (M.given source.new) stop) }
+        × PublishEnds a b outbox.old.next outbox.new.next outbox.old.lost outbox.new.lost
+        (M.given source.old) (M.given source.new) result.end }
 {
     redial.dialed();
     let mut peer = Peer::new(
@@ -178,6 +180,7 @@ fn publish_once<S: Stream + Drop, C: Clock + Drop, K: SessionSaver, N: Network<S
         connection.clock,
         sitting.keeper,
     );
+    peer.set_quiet_limit(u64::MAX);
     let end = publish_over(&mut peer, network, source, outbox, clean, redial);
     let (client, keeper) = peer.into_parts();
     Sitting {
@@ -185,6 +188,31 @@ fn publish_once<S: Stream + Drop, C: Clock + Drop, K: SessionSaver, N: Network<S
         keeper,
         end,
     }
+}
+
+// Makes a connection and publishes over it.
+fn publish_next<S: Stream + Drop, C: Clock + Drop, K: SessionSaver, N: Network<S, C>, M: Source>(
+    sitting: Sitting<K>,
+    network: &mut N,
+    source: &mut M,
+    outbox: &mut Outbox,
+    clean: bool,
+    redial: &mut Redial,
+) -> Sitting<K>
+    ensures { (a : Moment) × (b : Moment)
+        × StartsWith a sitting.client (K.kept sitting.keeper)
+        × StartsWith b result.client (K.kept result.keeper)
+        × PublishEnds a b outbox.old.next outbox.new.next outbox.old.lost outbox.new.lost
+        (M.given source.old) (M.given source.new) result.end }
+{
+    let Ok(connection) = network.dial() else {
+        return Sitting {
+            client: sitting.client,
+            keeper: sitting.keeper,
+            end: Err(redial.missed()),
+        };
+    };
+    publish_once(sitting, connection, network, source, outbox, clean, redial)
 }
 
 // The end of a run.
@@ -234,20 +262,14 @@ pub fn publish<S: Stream + Drop, C: Clock + Drop, K: SessionSaver, N: Network<S,
         end,
     };
     for _ in 0..u64::MAX {
-        match network.dial() {
-            Ok(connection) => {
-                sitting = publish_once(
-                    sitting,
-                    connection,
-                    network,
-                    source,
-                    &mut outbox,
-                    options.clean,
-                    &mut redial,
-                );
-            }
-            Err(_) => sitting.end = Err(redial.missed()),
-        }
+        sitting = publish_next(
+            sitting,
+            network,
+            source,
+            &mut outbox,
+            options.clean,
+            &mut redial,
+        );
         if let Some(end) = redial.next(sitting.end, false, network) {
             return end_of(sitting, &outbox, end);
         }

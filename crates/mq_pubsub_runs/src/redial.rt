@@ -1,6 +1,6 @@
 //! The decision to make another connection.
 
-ghost use Rattle.std.specs.Prelude.{◌≡◌, true, IfNone, IfSome, OnErr, OnOk};
+ghost use Rattle.std.specs.Prelude.{◌≡◌, true, is_some, Err, IfNone, IfSome, OnErr, OnOk};
 ghost use Rattle.mq_pubsub_runs.specs.Stops.{IsBroken, IsConnection, IsErr, IsOk};
 
 use crate::network::Network;
@@ -12,7 +12,7 @@ use mq_stream::{Clock, Stream};
 /// The connections of a run so far.
 #[derive(Clone, Copy, Debug, PartialEq, Eq)]
 pub(crate) struct Redial {
-    retry: Retry,
+    pub(crate) retry: Retry,
     backoff: Backoff,
     // A connection was made.
     has_dialed: bool,
@@ -62,7 +62,9 @@ impl Redial {
     // Whether another connection is made after an error. `renews` means that a lost session is
     // replaced by a new one.
     fn goes_on(&self, stop: Stop, renews: bool) -> bool
-        ensures { result ≡ true → IsConnection stop }
+        ensures broken { result ≡ true → IsConnection stop }
+        ensures lost { stop ≡ Stop.Connection RunError.Lost
+            → is_some self.now.retry.longest_wait ≡ true → result ≡ true }
     {
         if renews && stop.is_session_lost() {
             return true;
@@ -92,6 +94,9 @@ impl Redial {
         ensures done { IfSome result (λ final. OnOk final (IsOk end)) }
         ensures failed { IfSome result (λ final. OnErr final (IsErr end)) }
         ensures again { IfNone result (IsBroken end) }
+        ensures retries { end ≡ Err (Stop.Connection RunError.Lost)
+            → is_some self.old.retry.longest_wait ≡ true
+            → IfSome result (λ final. final ≡ Err RunError.TimedOut) }
     {
         let Err(stop) = end else {
             return Some(Ok(()));

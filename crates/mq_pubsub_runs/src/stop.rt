@@ -26,7 +26,8 @@ impl Stop {
 
     /// Returns whether a new connection may succeed.
     pub(crate) fn is_loss(self, was_up: bool) -> bool
-        ensures { result ≡ true → IsConnection self }
+        ensures broken { result ≡ true → IsConnection self }
+        ensures lost { self ≡ Stop.Connection RunError.Lost → result ≡ true }
     {
         match self {
             Stop::Connection(error) => error.is_loss(was_up),

@@ -1,10 +1,10 @@
 //! The run of `mqtt sub`.
 
-ghost use Rattle.std.specs.Prelude.{◌≡◌, [], List, true, IfErr, OnErr, OnOk};
-ghost use Rattle.mq_client.specs.Course.{Ask, Moment, Went};
+ghost use Rattle.std.specs.Prelude.{◌≡◌, ◌∷◌, [], true, false, IfErr, OnErr, OnOk};
+ghost use Rattle.mq_client.specs.Course.{Moment, Opening, Went, WentFirst};
 ghost use Rattle.mq_pubsub_runs.specs.Posting.{StartsWith};
 ghost use Rattle.mq_pubsub_runs.specs.Stops.{IsConnection};
-ghost use Rattle.mq_pubsub_runs.specs.Watching.{Stays, Watched, WatchedPart, WatchedUntil, first_inbox};
+ghost use Rattle.mq_pubsub_runs.specs.Watching.{Stays, SubscribeEnds, Watched, WatchedPart, WatchedUntil, first_inbox, requests_of, subscriptions_of, unsubscriptions_of};
 
 use crate::network::Network;
 use crate::redial::Redial;
@@ -53,7 +53,7 @@ fn open<S: Stream, C: Clock, K: SessionSaver>(
     peer: &mut Peer<S, C, K>,
     clean: bool,
 ) -> Result<(), Stop>
-    ensures went { (asks : List Ask) × Went peer.old peer.new asks [] [] }
+    ensures went { WentFirst peer.old peer.new (Opening clean ∷ []) [] [] }
     ensures stop { IfErr result IsConnection }
 {
     peer.open(clean)?;
@@ -68,9 +68,9 @@ fn read<S: Stream, C: Clock, K: SessionSaver, P: Printer>(
     options: &SubscribeOptions<'_>,
     printer: &mut P,
 ) -> Result<Option<CloseReason>, Stop>
-    ensures ok { OnOk result (Watched options.now.choice options.now.ends_when_granted
+    ensures ok { OnOk result (Watched options.now
         peer.old inbox.old (P.shown printer.old) peer.new inbox.new (P.shown printer.new)) }
-    ensures err { IfErr result (WatchedUntil options.now.choice options.now.ends_when_granted
+    ensures err { IfErr result (WatchedUntil options.now
         peer.old inbox.old (P.shown printer.old) peer.new inbox.new (P.shown printer.new)) }
 {
     let progress = peer.hear()?;
@@ -83,35 +83,81 @@ fn read<S: Stream, C: Clock, K: SessionSaver, P: Printer>(
     }
 }
 
-// Requests the subscriptions.
+// Requests subscriptions, if there are some.
+fn subscribe_to<S: Stream, C: Clock, K: SessionSaver>(
+    peer: &mut Peer<S, C, K>,
+    options: &SubscribeOptions<'_>,
+) -> Result<(), Stop>
+    ensures ok { OnOk result (Went peer.old peer.new (subscriptions_of options.now) [] []) }
+    ensures err { OnErr result (Went peer.old peer.new [] [] []) }
+    ensures stop { IfErr result IsConnection }
+{
+    let Some(requests) = options.requests else {
+        return Ok(());
+    };
+    peer.subscribe(requests.clone()?)?;
+    Ok(())
+}
+
+// Requests the end of subscriptions, if some are given up.
+fn unsubscribe_from<S: Stream, C: Clock, K: SessionSaver>(
+    peer: &mut Peer<S, C, K>,
+    options: &SubscribeOptions<'_>,
+) -> Result<(), Stop>
+    ensures ok { OnOk result (Went peer.old peer.new (unsubscriptions_of options.now) [] []) }
+    ensures err { OnErr result (Went peer.old peer.new [] [] []) }
+    ensures stop { IfErr result IsConnection }
+{
+    let Some(filters) = options.given_up else {
+        return Ok(());
+    };
+    peer.unsubscribe(filters.clone()?)?;
+    Ok(())
+}
+
+// Makes the requests.
 fn request<S: Stream, C: Clock, K: SessionSaver>(
     peer: &mut Peer<S, C, K>,
     options: &SubscribeOptions<'_>,
 ) -> Result<(), Stop>
-    ensures went { (asks : List Ask) × Went peer.old peer.new asks [] [] }
+    ensures ok { OnOk result (Went peer.old peer.new (requests_of options.now) [] []) }
+    ensures err { OnErr result (WentFirst peer.old peer.new (requests_of options.now) [] []) }
     ensures stop { IfErr result IsConnection }
 {
-    if let Some(requests) = options.requests {
-        peer.subscribe(requests.clone()?)?;
-    }
-    Ok(())
+    subscribe_to(peer, options)?;
+    unsubscribe_from(peer, options)
 }
 
-// Sends the output, and first the requests if `is_due`.
+// Sends the output, and first the requests if they are due.
 fn answer<S: Stream, C: Clock, K: SessionSaver>(
     peer: &mut Peer<S, C, K>,
     options: &SubscribeOptions<'_>,
     is_due: bool,
     closed: Option<CloseReason>,
 ) -> Result<(), Stop>
-    ensures went { (asks : List Ask) × Went peer.old peer.new asks [] [] }
+    ensures due { is_due ≡ true
+        → WentFirst peer.old peer.new (requests_of options.now) [] [] }
+    ensures not_due { is_due ≡ false → Went peer.old peer.new [] [] [] }
     ensures stop { IfErr result IsConnection }
 {
     if is_due {
         request(peer, options)?;
+        peer.answer(closed)?;
+        return Ok(());
     }
     peer.answer(closed)?;
     Ok(())
+}
+
+// Whether the requests are made now: they are due, and the client has just been connected.
+fn is_due<S: Stream, C: Clock, K: SessionSaver>(
+    peer: &Peer<S, C, K>,
+    inbox: &Inbox,
+    was_up: bool,
+) -> bool
+    ensures { result ≡ true → inbox.now.is_due ≡ true }
+{
+    inbox.is_due && !was_up && peer.is_up()
 }
 
 // Receives the bytes of one read, prints the messages that they complete, and then answers.
@@ -121,14 +167,14 @@ fn attend<S: Stream, C: Clock, K: SessionSaver, P: Printer>(
     options: &SubscribeOptions<'_>,
     printer: &mut P,
 ) -> Result<(), Stop>
-    ensures ok { OnOk result (Watched options.now.choice options.now.ends_when_granted
+    ensures ok { OnOk result (Watched options.now
         peer.old inbox.old (P.shown printer.old) peer.new inbox.new (P.shown printer.new)) }
-    ensures err { IfErr result (WatchedUntil options.now.choice options.now.ends_when_granted
+    ensures err { IfErr result (WatchedUntil options.now
         peer.old inbox.old (P.shown printer.old) peer.new inbox.new (P.shown printer.new)) }
 {
     let was_up = peer.is_up();
     let closed = read(peer, inbox, options, printer)?;
-    let is_due = !was_up && peer.is_up() && inbox.is_due;
+    let is_due = is_due(peer, inbox, was_up);
     answer(peer, options, is_due, closed)
 }
 
@@ -137,9 +183,10 @@ fn leave<S: Stream, C: Clock, K: SessionSaver>(peer: &mut Peer<S, C, K>) -> Resu
     ensures went { Went peer.old peer.new [] [] [] }
     ensures stop { IfErr result IsConnection }
 {
-    if peer.is_up() {
-        peer.leave()?;
+    if !peer.is_up() {
+        return Ok(());
     }
+    peer.leave()?;
     Ok(())
 }
 
@@ -163,11 +210,8 @@ fn subscribe_over<S: Stream, C: Clock, K: SessionSaver, N: Network<S, C>, P: Pri
     printer: &mut P,
     redial: &mut Redial,
 ) -> Result<(), Stop>
-    ensures ok { OnOk result (Watched options.now.choice options.now.ends_when_granted
-        peer.old inbox.old (P.shown printer.old) peer.new inbox.new (P.shown printer.new)) }
-    ensures ended { OnOk result (inbox.new.is_ended ≡ true) }
-    ensures err { IfErr result (WatchedUntil options.now.choice options.now.ends_when_granted
-        peer.old inbox.old (P.shown printer.old) peer.new inbox.new (P.shown printer.new)) }
+    ensures { SubscribeEnds options.now peer.old inbox.old (P.shown printer.old)
+        peer.new inbox.new (P.shown printer.new) result }
 {
     open(peer, options.clean)?;
     for _ in 0..u64::MAX {
@@ -193,17 +237,11 @@ fn subscribe_once<S: Stream + Drop, C: Clock + Drop, K: SessionSaver, N: Network
     printer: &mut P,
     redial: &mut Redial,
 ) -> Sitting<K>
-    ensures ok { OnOk result.end ((a : Moment) × (b : Moment)
+    ensures { (a : Moment) × (b : Moment)
         × StartsWith a sitting.client (K.kept sitting.keeper)
         × StartsWith b result.client (K.kept result.keeper)
-        × Watched options.now.choice options.now.ends_when_granted
-        a inbox.old (P.shown printer.old) b inbox.new (P.shown printer.new)) }
-    ensures ended { OnOk result.end (inbox.new.is_ended ≡ true) }
-    ensures err { IfErr result.end (λ stop. (a : Moment) × (b : Moment)
-        × StartsWith a sitting.client (K.kept sitting.keeper)
-        × StartsWith b result.client (K.kept result.keeper)
-        × WatchedUntil options.now.choice options.now.ends_when_granted
-        a inbox.old (P.shown printer.old) b inbox.new (P.shown printer.new) stop) }
+        × SubscribeEnds options.now a inbox.old (P.shown printer.old)
+        b inbox.new (P.shown printer.new) result.end }
 {
     redial.dialed();
     let mut peer = Peer::new(
@@ -212,6 +250,7 @@ fn subscribe_once<S: Stream + Drop, C: Clock + Drop, K: SessionSaver, N: Network
         connection.clock,
         sitting.keeper,
     );
+    peer.set_quiet_limit(u64::MAX);
     let end = subscribe_over(&mut peer, network, inbox, options, printer, redial);
     let (client, keeper) = peer.into_parts();
     Sitting {
@@ -219,6 +258,31 @@ fn subscribe_once<S: Stream + Drop, C: Clock + Drop, K: SessionSaver, N: Network
         keeper,
         end,
     }
+}
+
+// Makes a connection and subscribes over it.
+fn subscribe_next<S: Stream + Drop, C: Clock + Drop, K: SessionSaver, N: Network<S, C>, P: Printer>(
+    sitting: Sitting<K>,
+    network: &mut N,
+    inbox: &mut Inbox,
+    options: &SubscribeOptions<'_>,
+    printer: &mut P,
+    redial: &mut Redial,
+) -> Sitting<K>
+    ensures { (a : Moment) × (b : Moment)
+        × StartsWith a sitting.client (K.kept sitting.keeper)
+        × StartsWith b result.client (K.kept result.keeper)
+        × SubscribeEnds options.now a inbox.old (P.shown printer.old)
+        b inbox.new (P.shown printer.new) result.end }
+{
+    let Ok(connection) = network.dial() else {
+        return Sitting {
+            client: sitting.client,
+            keeper: sitting.keeper,
+            end: Err(redial.missed()),
+        };
+    };
+    subscribe_once(sitting, connection, network, inbox, options, printer, redial)
 }
 
 // Replaces the client by a new one if the server lost the session.
@@ -282,12 +346,12 @@ pub fn subscribe<S: Stream + Drop, C: Clock + Drop, K: SessionSaver, N: Network<
     printer: &mut P,
 ) -> Subscribed<K>
     ensures ok { OnOk result.end ((a : Moment) × StartsWith a client (K.kept keeper)
-        × (b : Moment) × Watched options.now.choice options.now.ends_when_granted
+        × (b : Moment) × Watched options.now
         a (first_inbox options.now) (P.shown printer.old)
         b result.inbox (P.shown printer.new)) }
     ensures ended { OnOk result.end (result.inbox.is_ended ≡ true) }
     ensures err { OnErr result.end ((a : Moment) × StartsWith a client (K.kept keeper)
-        × WatchedPart options.now.choice options.now.ends_when_granted
+        × WatchedPart options.now
         a (first_inbox options.now) (P.shown printer.old) (P.shown printer.new)) }
 {
     let mut inbox = first_inbox(options);
@@ -299,20 +363,14 @@ pub fn subscribe<S: Stream + Drop, C: Clock + Drop, K: SessionSaver, N: Network<
         end,
     };
     for _ in 0..u64::MAX {
-        match network.dial() {
-            Ok(connection) => {
-                sitting = subscribe_once(
-                    sitting,
-                    connection,
-                    network,
-                    &mut inbox,
-                    options,
-                    printer,
-                    &mut redial,
-                );
-            }
-            Err(_) => sitting.end = Err(redial.missed()),
-        }
+        sitting = subscribe_next(
+            sitting,
+            network,
+            &mut inbox,
+            options,
+            printer,
+            &mut redial,
+        );
         if let Some(end) = redial.next(sitting.end, true, network) {
             return end_of(sitting, inbox, end);
         }
