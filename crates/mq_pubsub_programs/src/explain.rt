@@ -19,22 +19,33 @@ const TIMED_OUT: u8 = 27;
 /// The status if the output fails.
 const NO_OUTPUT: u8 = 4;
 
+/// The values of the last digits of groups of three, the greatest first.
+const DIVISORS: [u64; 7] = [
+    1_000_000_000_000_000_000,
+    1_000_000_000_000_000,
+    1_000_000_000_000,
+    1_000_000_000,
+    1_000_000,
+    1_000,
+    1,
+];
+
 /// Displays a number with a comma before each three digits.
 #[derive(Clone, Copy)]
 pub(crate) struct Grouped(pub(crate) u64);
 
 impl fmt::Display for Grouped {
     fn fmt<W: fmt::Write>(&self, f: &mut fmt::Formatter<W>) -> fmt::Result {
-        let mut divisor = 1u64;
-        while self.0 / divisor >= 1_000 {
-            divisor = divisor.saturating_mul(1_000);
-        }
-        let first = self.0 / divisor;
-        write!(f, "{first}")?;
-        while divisor >= 1_000 {
-            divisor /= 1_000;
-            let group = self.0 / divisor % 1_000;
-            write!(f, ",{group:03}")?;
+        let mut is_begun = false;
+        for divisor in &DIVISORS {
+            let groups = self.0.checked_div(*divisor).unwrap_or(0);
+            if is_begun {
+                let group = groups % 1_000;
+                write!(f, ",{group:03}")?;
+            } else if groups > 0 || *divisor == 1 {
+                write!(f, "{groups}")?;
+                is_begun = true;
+            }
         }
         Ok(())
     }

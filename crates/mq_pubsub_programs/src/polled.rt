@@ -1,5 +1,9 @@
 //! Streams over sockets that wait for a source of messages too.
 
+ghost use Rattle.std.specs.Prelude.{None, IfSome};
+ghost use Rattle.mq_stream.specs.Stream.{Arrives};
+ghost use Rattle.mq_pubsub_programs.specs.Polling.{HasNoBytes};
+
 use crate::watch::Watch;
 use libc::net::POLLIN;
 use libc::types::pollfd;
@@ -69,7 +73,9 @@ impl<'a, T: Read + Write + AsRawFd> PolledStream<'a, T> {
     }
 
     // Waits for input. Returns the outcome of a read if there is none.
-    fn await_input(&mut self) -> Option<ReadOutcome> {
+    fn await_input(&mut self) -> Option<ReadOutcome>
+        ensures { IfSome result HasNoBytes }
+    {
         let wait = self.watch.wait();
         let (has_input, is_over) = has_input(
             self.socket.as_raw_fd(),
@@ -89,26 +95,30 @@ impl<'a, T: Read + Write + AsRawFd> PolledStream<'a, T> {
         }
     }
 
-    // Reads bytes of the socket into the buffer.
-    fn refill(&mut self) -> ReadOutcome {
+    // Reads bytes of the socket into the buffer. Returns the outcome of a read if there is none.
+    fn refill(&mut self) -> Option<ReadOutcome>
+        ensures { IfSome result HasNoBytes }
+    {
         match self.socket.read(self.bytes.as_mut_slice()) {
-            Ok(0) => ReadOutcome::End,
+            Ok(0) => Some(ReadOutcome::End),
             Ok(count) => {
                 self.start = 0;
                 self.end = count;
-                ReadOutcome::Bytes(count)
+                None
             }
-            Err(error) => match error.kind() {
+            Err(error) => Some(match error.kind() {
                 ErrorKind::Interrupted | ErrorKind::WouldBlock | ErrorKind::TimedOut => {
                     ReadOutcome::Nothing
                 }
                 _ => ReadOutcome::Failed,
-            },
+            }),
         }
     }
 
     // Hands bytes of the buffer out.
-    fn hand(&mut self, buffer: &mut [u8]) -> ReadOutcome {
+    fn hand(&mut self, buffer: &mut [u8]) -> ReadOutcome
+        ensures { Arrives None None buffer.new result }
+    {
         let count = buffer.len().min(self.end.saturating_sub(self.start));
         let Some(bytes) = self.bytes.get(self.start..self.start.saturating_add(count)) else {
             return ReadOutcome::Failed;
@@ -128,9 +138,8 @@ impl<T: Read + Write + AsRawFd> Stream for PolledStream<'_, T> {
             if let Some(outcome) = self.await_input() {
                 return outcome;
             }
-            match self.refill() {
-                ReadOutcome::Bytes(_) => {}
-                outcome => return outcome,
+            if let Some(outcome) = self.refill() {
+                return outcome;
             }
         }
         self.hand(buffer)

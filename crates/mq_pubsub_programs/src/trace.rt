@@ -84,6 +84,12 @@ impl<'a, S: Stream, R: Eprint> TracedStream<'a, S, R> {
 }
 
 impl<S: Stream, R: Eprint> Stream for TracedStream<'_, S, R> {
+    ghost coming = { λ s. S.coming s.inner };
+
+    ghost written = { λ s. S.written s.inner };
+
+    ghost closed = { λ s. S.closed s.inner };
+
     fn read(&mut self, buffer: &mut [u8]) -> ReadOutcome {
         let outcome = self.inner.read(buffer);
         if let (true, ReadOutcome::Bytes(count)) = (self.is_on, outcome) {
