@@ -14,7 +14,7 @@ use url::Url;
 /// The port of a broker that has none.
 const PORT: u16 = 1883;
 
-/// What the environment says, for what no option says.
+/// The values of the environment, for options that are not given.
 #[derive(Debug, Drop)]
 pub struct Defaults {
     /// MQTT_HOST

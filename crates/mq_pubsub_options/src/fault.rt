@@ -11,7 +11,7 @@ pub enum OptionFault {
     /// The parser refused them, or they ask for help.
     #[error("{0}")]
     Parse(ParseError),
-    /// This sentence says what is wrong, and what to do.
+    /// This sentence names the fault and the remedy.
     #[error("{0}")]
     Said(String),
     /// An allocation failed.

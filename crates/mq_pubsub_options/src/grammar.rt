@@ -1,6 +1,5 @@
 //! The definition of the command lines.
 
-use clap::builder::ValueParser;
 use clap::{Arg, ArgAction, Command, value_parser};
 use std::alloc::{AllocError, Global};
 
@@ -11,51 +10,360 @@ const END: &str =
 Status: 0 done; 1 an error, which standard error has in a sentence; 1 to 5 the broker's code of a
 refused connection; 27 the time of -W is over.";
 
-// An option: its name in the code, its letter, its long name, its value and its help.
+/// The values that an option takes.
+#[derive(Clone, Copy)]
+enum Kind {
+    /// One text. A later use replaces an earlier one.
+    Text,
+    /// One text for each use.
+    Texts,
+    /// A number with these bounds.
+    Number(i64, i64),
+    /// No value.
+    Flag,
+}
+
+/// An option.
 #[derive(Clone, Copy)]
 struct Row {
+    /// Its name in the code.
     id: &'static str,
     short: Option<char>,
     long: Option<&'static str>,
+    kind: Kind,
+    /// The name of its value in the help.
     value: &'static str,
     help: &'static str,
 }
 
-// A row with a letter and a long name.
-const fn both_row(
-    id: &'static str,
-    short: char,
-    long: &'static str,
-    value: &'static str,
-    help: &'static str,
-) -> Row {
+/// The options of both commands.
+const COMMON: [Row; 18] = [
     Row {
-        id,
-        short: Some(short),
-        long: Some(long),
-        value,
-        help,
-    }
-}
-
-// A row with a long name alone.
-const fn long_row(
-    id: &'static str,
-    long: &'static str,
-    value: &'static str,
-    help: &'static str,
-) -> Row {
+        id: "HOST",
+        short: Some('h'),
+        long: Some("host"),
+        kind: Kind::Text,
+        value: "HOST",
+        help: "The broker's name or address [default: localhost]",
+    },
     Row {
-        id,
+        id: "PORT",
+        short: Some('p'),
+        long: Some("port"),
+        kind: Kind::Number(1, 65_535),
+        value: "PORT",
+        help: "The broker's port [default: 1883]",
+    },
+    Row {
+        id: "URL",
+        short: Some('L'),
+        long: Some("url"),
+        kind: Kind::Text,
+        value: "URL",
+        help: "mqtt://[USER[:PASSWORD]@]HOST[:PORT]/TOPIC in place of -u, -P, -h, -p and -t",
+    },
+    Row {
+        id: "USER",
+        short: Some('u'),
+        long: Some("username"),
+        kind: Kind::Text,
+        value: "USER",
+        help: "The user name",
+    },
+    Row {
+        id: "PASSWORD",
+        short: Some('P'),
+        long: Some("pw"),
+        kind: Kind::Text,
+        value: "PASSWORD",
+        help: "The password; other users of this machine may see it, unlike --password-file",
+    },
+    Row {
+        id: "PASSWORD_FILE",
         short: None,
-        long: Some(long),
-        value,
-        help,
-    }
-}
+        long: Some("password-file"),
+        kind: Kind::Text,
+        value: "FILE",
+        help: "The first line of this file is the password",
+    },
+    Row {
+        id: "ID",
+        short: Some('i'),
+        long: Some("id"),
+        kind: Kind::Text,
+        value: "ID",
+        help: "The client identifier [default: made up]",
+    },
+    Row {
+        id: "KEEP",
+        short: Some('c'),
+        long: Some("disable-clean-session"),
+        kind: Kind::Flag,
+        value: "",
+        help: "Keeps the session at the broker after the end",
+    },
+    Row {
+        id: "SESSION",
+        short: None,
+        long: Some("session"),
+        kind: Kind::Text,
+        value: "FILE",
+        help: "Keeps the session in this file from run to run; implies -c",
+    },
+    Row {
+        id: "KEEP_ALIVE",
+        short: Some('k'),
+        long: Some("keepalive"),
+        kind: Kind::Number(0, 65_535),
+        value: "SECONDS",
+        help: "Keep-alive in seconds, 0 for none [default: 60]",
+    },
+    Row {
+        id: "RETRY",
+        short: None,
+        long: Some("retry"),
+        kind: Kind::Text,
+        value: "SECONDS",
+        help: "The longest wait before a new connection, or `never` [default: 30]",
+    },
+    Row {
+        id: "TIMEOUT",
+        short: Some('W'),
+        long: Some("timeout"),
+        kind: Kind::Text,
+        value: "SECONDS",
+        help: "Ends after this time with status 27",
+    },
+    Row {
+        id: "WILL_TOPIC",
+        short: None,
+        long: Some("will-topic"),
+        kind: Kind::Text,
+        value: "TOPIC",
+        help: "The topic to which the broker publishes a will if the connection is lost",
+    },
+    Row {
+        id: "WILL_PAYLOAD",
+        short: None,
+        long: Some("will-payload"),
+        kind: Kind::Text,
+        value: "TEXT",
+        help: "The payload of the will [default: empty]",
+    },
+    Row {
+        id: "WILL_QOS",
+        short: None,
+        long: Some("will-qos"),
+        kind: Kind::Number(0, 2),
+        value: "QOS",
+        help: "The quality of service of the will [default: 0]",
+    },
+    Row {
+        id: "WILL_RETAIN",
+        short: None,
+        long: Some("will-retain"),
+        kind: Kind::Flag,
+        value: "",
+        help: "The broker retains the will",
+    },
+    Row {
+        id: "DEBUG",
+        short: Some('d'),
+        long: Some("debug"),
+        kind: Kind::Flag,
+        value: "",
+        help: "Prints each packet to standard error",
+    },
+    Row {
+        id: "QUIET",
+        short: None,
+        long: Some("quiet"),
+        kind: Kind::Flag,
+        value: "",
+        help: "Prints no errors",
+    },
+];
+
+/// The options of `mqtt pub`.
+const PUBLISH: [Row; 9] = [
+    Row {
+        id: "TOPIC",
+        short: Some('t'),
+        long: Some("topic"),
+        kind: Kind::Text,
+        value: "TOPIC",
+        help: "The topic to publish to",
+    },
+    Row {
+        id: "QOS",
+        short: Some('q'),
+        long: Some("qos"),
+        kind: Kind::Number(0, 2),
+        value: "QOS",
+        help: "The quality of service, 0 to 2 [default: 0]",
+    },
+    Row {
+        id: "TEXT",
+        short: Some('m'),
+        long: Some("message"),
+        kind: Kind::Texts,
+        value: "TEXT",
+        help: "Publishes this text; may be repeated",
+    },
+    Row {
+        id: "FILE",
+        short: Some('f'),
+        long: Some("file"),
+        kind: Kind::Text,
+        value: "FILE",
+        help: "Publishes the contents of this file",
+    },
+    Row {
+        id: "WHOLE",
+        short: Some('s'),
+        long: Some("stdin-file"),
+        kind: Kind::Flag,
+        value: "",
+        help: "Publishes standard input as one message",
+    },
+    Row {
+        id: "LINES",
+        short: Some('l'),
+        long: Some("stdin-line"),
+        kind: Kind::Flag,
+        value: "",
+        help: "Publishes each line of standard input as it arrives",
+    },
+    Row {
+        id: "EMPTY",
+        short: Some('n'),
+        long: Some("null-message"),
+        kind: Kind::Flag,
+        value: "",
+        help: "Publishes an empty message",
+    },
+    Row {
+        id: "RETAIN",
+        short: Some('r'),
+        long: Some("retain"),
+        kind: Kind::Flag,
+        value: "",
+        help: "The broker retains the last message",
+    },
+    Row {
+        id: "REPEAT",
+        short: None,
+        long: Some("repeat"),
+        kind: Kind::Number(0, 4_294_967_295),
+        value: "N",
+        help: "Publishes this many times; not with -l [default: 1]",
+    },
+];
+
+/// The option `--delay`, which has two long names.
+const DELAY: Row = Row {
+    id: "DELAY",
+    short: None,
+    long: Some("delay"),
+    kind: Kind::Text,
+    value: "SECONDS",
+    help: "Waits this long before each message but the first",
+};
+
+/// The options of `mqtt sub`.
+const SUBSCRIBE: [Row; 11] = [
+    Row {
+        id: "TOPIC",
+        short: Some('t'),
+        long: Some("topic"),
+        kind: Kind::Texts,
+        value: "FILTER",
+        help: "The topic filter to subscribe to; may be repeated",
+    },
+    Row {
+        id: "QOS",
+        short: Some('q'),
+        long: Some("qos"),
+        kind: Kind::Number(0, 2),
+        value: "QOS",
+        help: "The maximum quality of service, 0 to 2 [default: 0]",
+    },
+    Row {
+        id: "EXCLUDED",
+        short: Some('T'),
+        long: Some("filter-out"),
+        kind: Kind::Texts,
+        value: "FILTER",
+        help: "Prints no messages whose topic matches this filter; may be repeated",
+    },
+    Row {
+        id: "GIVEN_UP",
+        short: Some('U'),
+        long: Some("unsubscribe"),
+        kind: Kind::Texts,
+        value: "FILTER",
+        help: "Unsubscribes from this filter; may be repeated",
+    },
+    Row {
+        id: "COUNT",
+        short: Some('C'),
+        long: None,
+        kind: Kind::Number(1, 4_294_967_295),
+        value: "COUNT",
+        help: "Ends after this many messages",
+    },
+    Row {
+        id: "FRESH",
+        short: Some('R'),
+        long: None,
+        kind: Kind::Flag,
+        value: "",
+        help: "Prints no retained messages",
+    },
+    Row {
+        id: "RETAINED",
+        short: None,
+        long: Some("retained-only"),
+        kind: Kind::Flag,
+        value: "",
+        help: "Prints only retained messages, and ends at the first other one",
+    },
+    Row {
+        id: "GRANTED",
+        short: Some('E'),
+        long: None,
+        kind: Kind::Flag,
+        value: "",
+        help: "Ends once the subscriptions are granted",
+    },
+    Row {
+        id: "VERBOSE",
+        short: Some('v'),
+        long: Some("verbose"),
+        kind: Kind::Flag,
+        value: "",
+        help: "Prints the topic before each payload",
+    },
+    Row {
+        id: "BARE",
+        short: Some('N'),
+        long: None,
+        kind: Kind::Flag,
+        value: "",
+        help: "Prints no line end after a message",
+    },
+    Row {
+        id: "FORMAT",
+        short: Some('F'),
+        long: None,
+        kind: Kind::Text,
+        value: "FORMAT",
+        help: "Prints by this format: %t %p %x %X %q %r %l %m %I %U %j %%, @Y and such, \\n and such",
+    },
+];
 
 // An argument of a row.
-fn arg_of<'a>(alloc: Global, row: Row) -> Arg<'a> {
+fn arg_of<'a>(alloc: Global, row: &Row) -> Arg<'a> {
     let mut arg = Arg::new(alloc, row.id).help(row.help);
     if let Some(short) = row.short {
         arg = arg.short(short);
@@ -63,128 +371,29 @@ fn arg_of<'a>(alloc: Global, row: Row) -> Arg<'a> {
     if let Some(long) = row.long {
         arg = arg.long(long);
     }
-    arg
+    match row.kind {
+        Kind::Text => arg.value_name(row.value).allow_hyphen_values(true),
+        Kind::Texts => arg
+            .value_name(row.value)
+            .allow_hyphen_values(true)
+            .action(ArgAction::Append),
+        Kind::Number(least, most) => arg
+            .value_name(row.value)
+            .value_parser(value_parser!(u32).range(least..=most)),
+        Kind::Flag => arg.action(ArgAction::SetTrue),
+    }
 }
 
-// Adds an option with one value. A later use replaces an earlier one.
-fn text<'a>(command: Command<'a>, alloc: Global, row: Row) -> Result<Command<'a>, AllocError> {
-    let arg = arg_of(alloc, row)
-        .value_name(row.value)
-        .allow_hyphen_values(true);
-    command.arg(arg)
-}
-
-// Adds an option that may be used several times.
-fn texts<'a>(command: Command<'a>, alloc: Global, row: Row) -> Result<Command<'a>, AllocError> {
-    let arg = arg_of(alloc, row)
-        .value_name(row.value)
-        .allow_hyphen_values(true)
-        .action(ArgAction::Append);
-    command.arg(arg)
-}
-
-// Adds an option whose value is a number.
-fn number<'a>(
-    command: Command<'a>,
+// Adds the arguments of rows.
+fn with_rows<'a>(
+    mut command: Command<'a>,
     alloc: Global,
-    row: Row,
-    kind: ValueParser<'a>,
+    rows: &[Row],
 ) -> Result<Command<'a>, AllocError> {
-    let arg = arg_of(alloc, row).value_name(row.value).value_parser(kind);
-    command.arg(arg)
-}
-
-// Adds a flag.
-fn flag<'a>(command: Command<'a>, alloc: Global, row: Row) -> Result<Command<'a>, AllocError> {
-    command.arg(arg_of(alloc, row).action(ArgAction::SetTrue))
-}
-
-// The command with the options of the connection.
-fn with_address<'a>(command: Command<'a>, alloc: Global) -> Result<Command<'a>, AllocError> {
-    let help = "The broker's name or address [default: localhost]";
-    let command = text(command, alloc, both_row("HOST", 'h', "host", "HOST", help))?;
-    let help = "The broker's port [default: 1883]";
-    let kind = value_parser!(u16).range(1..=65_535);
-    let command = number(
-        command,
-        alloc,
-        both_row("PORT", 'p', "port", "PORT", help),
-        kind,
-    )?;
-    let help = "mqtt://[USER[:PASSWORD]@]HOST[:PORT]/TOPIC in place of -u, -P, -h, -p and -t";
-    let command = text(command, alloc, both_row("URL", 'L', "url", "URL", help))?;
-    let help = "The user name";
-    let command = text(
-        command,
-        alloc,
-        both_row("USER", 'u', "username", "USER", help),
-    )?;
-    let help = "The password; other users of this machine may see it, unlike --password-file";
-    let command = text(
-        command,
-        alloc,
-        both_row("PASSWORD", 'P', "pw", "PASSWORD", help),
-    )?;
-    let help = "The first line of this file is the password";
-    text(
-        command,
-        alloc,
-        long_row("PASSWORD_FILE", "password-file", "FILE", help),
-    )
-}
-
-// The command with the options of the session.
-fn with_session<'a>(command: Command<'a>, alloc: Global) -> Result<Command<'a>, AllocError> {
-    let help = "The client identifier [default: made up]";
-    let command = text(command, alloc, both_row("ID", 'i', "id", "ID", help))?;
-    let help = "Keeps the session at the broker after the end";
-    let keep = both_row("KEEP", 'c', "disable-clean-session", "", help);
-    let command = flag(command, alloc, keep)?;
-    let help = "Keeps the session in this file from run to run; implies -c";
-    let command = text(command, alloc, long_row("SESSION", "session", "FILE", help))?;
-    let help = "Keep-alive in seconds, 0 for none [default: 60]";
-    let alive = both_row("KEEP_ALIVE", 'k', "keepalive", "SECONDS", help);
-    let command = number(command, alloc, alive, value_parser!(u16))?;
-    let help = "The longest wait before a new connection, or `never` [default: 30]";
-    let command = text(command, alloc, long_row("RETRY", "retry", "SECONDS", help))?;
-    let help = "Ends after this time with status 27";
-    text(
-        command,
-        alloc,
-        both_row("TIMEOUT", 'W', "timeout", "SECONDS", help),
-    )
-}
-
-// The command with the options of the will.
-fn with_will<'a>(command: Command<'a>, alloc: Global) -> Result<Command<'a>, AllocError> {
-    let help = "The topic to which the broker publishes a will if the connection is lost";
-    let topic = long_row("WILL_TOPIC", "will-topic", "TOPIC", help);
-    let command = text(command, alloc, topic)?;
-    let help = "The payload of the will [default: empty]";
-    let payload = long_row("WILL_PAYLOAD", "will-payload", "TEXT", help);
-    let command = text(command, alloc, payload)?;
-    let help = "The quality of service of the will [default: 0]";
-    let qos = long_row("WILL_QOS", "will-qos", "QOS", help);
-    let command = number(command, alloc, qos, value_parser!(u8).range(0..=2))?;
-    let help = "The broker retains the will";
-    flag(
-        command,
-        alloc,
-        long_row("WILL_RETAIN", "will-retain", "", help),
-    )
-}
-
-// The command with the options of what is said.
-fn with_logs<'a>(command: Command<'a>, alloc: Global) -> Result<Command<'a>, AllocError> {
-    let help = "Prints each packet to standard error";
-    let command = flag(command, alloc, both_row("DEBUG", 'd', "debug", "", help))?;
-    let help = "Prints no errors";
-    let command = flag(command, alloc, long_row("QUIET", "quiet", "", help))?;
-    let help = Arg::new(alloc, "HELP")
-        .long("help")
-        .help("Prints this help")
-        .action(ArgAction::Help);
-    command.arg(help)
+    for row in rows {
+        command = command.arg(arg_of(alloc, row))?;
+    }
+    Ok(command)
 }
 
 // A command with the options that both have.
@@ -199,165 +408,24 @@ fn common<'a>(
         .disable_help_flag(true)
         .disable_version_flag(true)
         .args_override_self(true);
-    let command = with_address(command, alloc)?;
-    let command = with_session(command, alloc)?;
-    let command = with_will(command, alloc)?;
-    with_logs(command, alloc)
+    let help = Arg::new(alloc, "HELP")
+        .long("help")
+        .help("Prints this help")
+        .action(ArgAction::Help);
+    with_rows(command.arg(help)?, alloc, &COMMON)
 }
 
 /// The command line of `mqtt pub`.
 pub fn publish_command<'a>(alloc: Global) -> Result<Command<'a>, AllocError> {
     let about = "Publishes messages, and ends once the broker has acknowledged all of them";
     let command = common(alloc, "mqtt pub", about)?;
-    let help = "The topic to publish to";
-    let command = text(
-        command,
-        alloc,
-        both_row("TOPIC", 't', "topic", "TOPIC", help),
-    )?;
-    let help = "The quality of service, 0 to 2 [default: 0]";
-    let kind = value_parser!(u8).range(0..=2);
-    let command = number(
-        command,
-        alloc,
-        both_row("QOS", 'q', "qos", "QOS", help),
-        kind,
-    )?;
-    let help = "Publishes this text; may be repeated";
-    let command = texts(
-        command,
-        alloc,
-        both_row("TEXT", 'm', "message", "TEXT", help),
-    )?;
-    let help = "Publishes the contents of this file";
-    let command = text(command, alloc, both_row("FILE", 'f', "file", "FILE", help))?;
-    let help = "Publishes standard input as one message";
-    let command = flag(
-        command,
-        alloc,
-        both_row("WHOLE", 's', "stdin-file", "", help),
-    )?;
-    let help = "Publishes each line of standard input as it arrives";
-    let command = flag(
-        command,
-        alloc,
-        both_row("LINES", 'l', "stdin-line", "", help),
-    )?;
-    let help = "Publishes an empty message";
-    let command = flag(
-        command,
-        alloc,
-        both_row("EMPTY", 'n', "null-message", "", help),
-    )?;
-    let help = "The broker retains the last message";
-    let command = flag(command, alloc, both_row("RETAIN", 'r', "retain", "", help))?;
-    let help = "Publishes this many times; not with -l [default: 1]";
-    let repeat = long_row("REPEAT", "repeat", "N", help);
-    let command = number(command, alloc, repeat, value_parser!(u32))?;
-    let help = "Waits this long before each message but the first";
-    let delay = long_row("DELAY", "delay", "SECONDS", help);
-    let delay = arg_of(alloc, delay)
-        .value_name("SECONDS")
-        .alias("repeat-delay")?;
-    command.arg(delay)
-}
-
-// The command with the options that choose messages.
-fn with_choice<'a>(command: Command<'a>, alloc: Global) -> Result<Command<'a>, AllocError> {
-    let help = "Prints no messages whose topic matches this filter; may be repeated";
-    let command = texts(
-        command,
-        alloc,
-        both_row("EXCLUDED", 'T', "filter-out", "FILTER", help),
-    )?;
-    let help = "Unsubscribes from this filter; may be repeated";
-    let command = texts(
-        command,
-        alloc,
-        both_row("GIVEN_UP", 'U', "unsubscribe", "FILTER", help),
-    )?;
-    let help = "Ends after this many messages";
-    let count = Row {
-        id: "COUNT",
-        short: Some('C'),
-        long: None,
-        value: "COUNT",
-        help,
-    };
-    let command = number(
-        command,
-        alloc,
-        count,
-        value_parser!(u32).range(1..=4_294_967_295),
-    )?;
-    let help = "Prints no retained messages";
-    let stale = Row {
-        id: "FRESH",
-        short: Some('R'),
-        long: None,
-        value: "",
-        help,
-    };
-    let command = flag(command, alloc, stale)?;
-    let help = "Prints only retained messages, and ends at the first other one";
-    let command = flag(
-        command,
-        alloc,
-        long_row("RETAINED", "retained-only", "", help),
-    )?;
-    let help = "Ends once the subscriptions are granted";
-    let granted = Row {
-        id: "GRANTED",
-        short: Some('E'),
-        long: None,
-        value: "",
-        help,
-    };
-    flag(command, alloc, granted)
+    let command = with_rows(command, alloc, &PUBLISH)?;
+    command.arg(arg_of(alloc, &DELAY).alias("repeat-delay")?)
 }
 
 /// The command line of `mqtt sub`.
 pub fn subscribe_command<'a>(alloc: Global) -> Result<Command<'a>, AllocError> {
     let about = "Subscribes, and prints the messages that arrive";
     let command = common(alloc, "mqtt sub", about)?;
-    let help = "The topic filter to subscribe to; may be repeated";
-    let command = texts(
-        command,
-        alloc,
-        both_row("TOPIC", 't', "topic", "FILTER", help),
-    )?;
-    let help = "The maximum quality of service, 0 to 2 [default: 0]";
-    let kind = value_parser!(u8).range(0..=2);
-    let command = number(
-        command,
-        alloc,
-        both_row("QOS", 'q', "qos", "QOS", help),
-        kind,
-    )?;
-    let command = with_choice(command, alloc)?;
-    let help = "Prints the topic before each payload";
-    let command = flag(
-        command,
-        alloc,
-        both_row("VERBOSE", 'v', "verbose", "", help),
-    )?;
-    let help = "Prints no line end after a message";
-    let bare = Row {
-        id: "BARE",
-        short: Some('N'),
-        long: None,
-        value: "",
-        help,
-    };
-    let command = flag(command, alloc, bare)?;
-    let help =
-        "Prints by this format: %t %p %x %X %q %r %l %m %I %U %j %%, @Y and such, \\n and such";
-    let format = Row {
-        id: "FORMAT",
-        short: Some('F'),
-        long: None,
-        value: "FORMAT",
-        help,
-    };
-    text(command, alloc, format)
+    with_rows(command, alloc, &SUBSCRIBE)
 }

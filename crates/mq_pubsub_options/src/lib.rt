@@ -1,5 +1,5 @@
 //! The options of `mqtt pub` and `mqtt sub`, which are those of `mosquitto_pub` and
-//! `mosquitto_sub` where both have the same.
+//! `mosquitto_sub` if those have the same option.
 //!
 //! A call that may allocate says so in its return type; other calls never allocate.
 //! On `Err` the receiver is unchanged unless stated otherwise.

@@ -1,4 +1,4 @@
-//! What both commands do before their runs.
+//! Steps of both commands before their runs.
 
 use crate::explain::unread_file;
 use bytes::Bytes;
@@ -24,7 +24,7 @@ fn variable<R: Env + AllocGlobal>(rt: &R, name: &str) -> Option<String> {
     }
 }
 
-/// What the environment says.
+/// The defaults of the environment.
 pub(crate) fn defaults_of<R: Env + AllocGlobal>(rt: &R) -> Defaults {
     Defaults {
         host: variable(rt, "MQTT_HOST"),

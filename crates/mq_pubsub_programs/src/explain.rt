@@ -64,7 +64,7 @@ pub(crate) struct Place<'a> {
     pub(crate) retries: bool,
 }
 
-/// What a run did, for sentences.
+/// The work of a run, for sentences.
 #[derive(Clone, Copy)]
 pub(crate) enum Work {
     /// Messages were published with this quality of service.

@@ -45,6 +45,7 @@ impl Known {
     }
 
     // One more payload was taken.
+    #[tactic(auto, using(crate::proofs::Rounds::one_more, crate::proofs::Rounds::round_done))]
     fn advance(&mut self)
         requires within { self.old.index < vec_len self.old.payloads }
         requires more { self.old.rounds < self.old.repeat }
@@ -55,13 +56,14 @@ impl Known {
     {
         if self.index + 1 < self.payloads.len() {
             self.index += 1;
-        } else {
-            self.rounds += 1;
-            self.index = 0;
+            return;
         }
+        self.rounds += 1;
+        self.index = 0;
     }
 
     /// The next payload.
+    #[tactic(auto, using(crate::proofs::Rounds::rounds_over, crate::proofs::Rounds::nothing_left))]
     pub(crate) fn next(&mut self) -> Result<InputLine, AllocError>
         ensures taken { IfOk result
             (λ line. taken_payloads self.new ≡ taken_payloads self.old ++ payloads_in line) }
@@ -70,7 +72,10 @@ impl Known {
         ensures repeat { self.new.repeat ≡ self.old.repeat }
         ensures err { OnErr result (taken_payloads self.new ≡ taken_payloads self.old) }
     {
-        if self.rounds >= self.repeat || self.index >= self.payloads.len() {
+        if self.rounds >= self.repeat {
+            return Ok(InputLine::End);
+        }
+        if self.index >= self.payloads.len() {
             return Ok(InputLine::End);
         }
         let payload = self.payloads[self.index].clone()?;

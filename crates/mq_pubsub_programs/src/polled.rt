@@ -16,7 +16,7 @@ use std::os::fd::AsRawFd;
 const ROOM: usize = 16_384;
 
 /// Returns whether the first of two descriptors has input, and whether neither had any in this many
-/// milliseconds. A descriptor -1 is none.
+/// milliseconds. A descriptor -1 has no input.
 pub(crate) fn has_input(first: i32, second: i32, milliseconds: i32) -> (bool, bool) {
     let mut list = [
         pollfd {
@@ -34,7 +34,7 @@ pub(crate) fn has_input(first: i32, second: i32, milliseconds: i32) -> (bool, bo
     (count > 0 && list[0].revents != 0, count == 0)
 }
 
-/// A stream over a socket, with a buffer. A read waits for the socket and for what a watch says.
+/// A stream over a socket, with a buffer. A read waits for the socket and as a watch says.
 /// The stream has failed if nothing arrives for too long.
 #[derive(Drop)]
 pub(crate) struct PolledStream<'a, T: Read + Write + AsRawFd> {

@@ -1,4 +1,4 @@
-//! What a read of a connection waits for besides the connection.
+//! Other events than bytes of a connection that end a read.
 
 use std::cell::Cell;
 
@@ -8,7 +8,7 @@ const LONGEST: i32 = 100;
 /// No descriptor.
 const NONE: i32 = -1;
 
-/// What a read of a connection waits for besides the connection: a source of messages tells it.
+/// Other events than bytes that end a read of a connection. A source of messages sets them.
 #[derive(Drop)]
 pub(crate) struct Watch {
     descriptor: Cell<i32>,
