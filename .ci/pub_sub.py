@@ -519,6 +519,10 @@ def _(room):
     same("two of five", found[0], (0, b"0\n1\n"))
     # Ours acknowledges nothing behind the second message, so the others come again.
     same("the others", room.at(OURS, "sub", ["-i", "kept0", "-c", "-q", 1, "-t", "k", "-C", 3]).ended()[:2], (0, b"2\n3\n4\n"))
+    same("give up", room.at(OURS, "sub", ["-i", "kept0", "-c", "-U", "k", "-E"]).ended()[0], 0)
+    peer.publish(b"k", b"late", 1)
+    found = room.at(OURS, "sub", ["-i", "kept0", "-c", "-q", 1, "-t", "other", "-W", 1]).ended()[:2]
+    same("nothing after that", found, (27, b""))
     peer.close()
 
 
