@@ -1,5 +1,5 @@
 -- Digits behind a point.
-use Rattle.std.proofs.Common.{◌≡◌, ◌∙◌, ℕ, ◌+◌, ◌*◌, ◌-◌, ◌/◌, ◌<◌, ◌≤◌, List, length, drop, drop-cons, get_or, ap, arith}
+use Rattle.std.proofs.Common.{◌≡◌, ℕ, ◌+◌, ◌*◌, ◌-◌, ◌/◌, ◌<◌, ◌≤◌, List, length, drop, drop-cons, get_or, ap, arith}
 use native.Mathlib.Numerals.{unary_clauses}
 use Rattle.std.proofs.Math.Nat.{mul-le-mul_right}
 use Rattle.mq_pubsub_options.specs.Seconds.{fraction}

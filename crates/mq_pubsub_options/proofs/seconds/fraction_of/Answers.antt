@@ -1,9 +1,9 @@
-use Rattle.std.proofs.Common.{rules, ◌<◌, ◌≤◌, ◌≡◌, ℕ, ◌+◌, ◌-◌, ◌*◌, length, ◌/◌, get_or, arith, ap, subst, ◌∙◌, take, drop}
+use Rattle.std.proofs.Common.{◌<◌, ◌≤◌, ◌≡◌, ◌-◌, ◌*◌, length, ◌/◌, get_or, arith, ap, subst, ◌∙◌, take, drop}
 use Rattle.std.proofs.lemmas.Grind.{common_steps}
 use Rattle.std.specs.List.{All}
 use Rattle.std.proofs.lemmas.List.{drop_all, take_all}
 use Rattle.std.proofs.lemmas.List.Elements.{All-more}
-use Rattle.mq_pubsub_options.specs.Seconds.{IsDigit, IsFraction, fraction}
+use Rattle.mq_pubsub_options.specs.Seconds.{IsDigit, fraction}
 use Rattle.mq_pubsub_options.proofs.Durations.{few_units, one_digit}
 use Rattle.mq_pubsub_options.proofs.seconds.fraction_of.Goals as goal
 
