@@ -81,6 +81,7 @@ program: bin/mqtt
 
 interop: bin/mqtt
 	.ci/interop bin/mqtt
+	.ci/pub_sub.py bin/mqtt
 
 bin/mq_refusals: $(shell .ci/build --sources mq_refusals)
 	$(need_kit)

@@ -8,8 +8,9 @@ use mq_cli::{
 use mq_programs::{
     run_broker_command, run_client, run_draw, run_journal, run_loopback, run_password, run_serve,
 };
+use mq_pubsub_programs::{run_pub, run_sub};
 use std::fs::File;
-use std::io::{BufReader, BufWriter, Input, Write};
+use std::io::{BufReader, BufWriter, Input, IsTerminal, Write};
 use std::net::{Net, TcpListener, TcpStream};
 use std::process::ExitCode;
 use std::random::RandomSource;
@@ -78,6 +79,19 @@ fn run_drawn(rt: &HostRuntime, draw: Draw<'_>) -> Result<u8, Failure> {
     Ok(status)
 }
 
+/// Runs `pub` or `sub`, whose options differ from those of the other commands. Returns the exit
+/// status, or `None` for another command.
+fn run_familiar(rt: &HostRuntime, words: &[&str]) -> Option<u8> {
+    let [_, command, rest @ ..] = words else {
+        return None;
+    };
+    match *command {
+        "pub" => Some(run_pub(rt, rt.alloc(), rest, rt.stderr().is_terminal())),
+        "sub" => Some(run_sub(rt, rt.alloc(), rest)),
+        _ => None,
+    }
+}
+
 /// Runs the given command and returns the exit status.
 fn run<R>(rt: &HostRuntime, host: &R) -> Result<u8, Failure>
 where
@@ -92,6 +106,9 @@ where
     let alloc = rt.alloc();
     let words: Vec<String> = env::args(rt).map_err(Failure::of_words)?.collect(alloc)?;
     let words: Vec<&str> = words.iter().map(|word| word.as_str()).collect(alloc)?;
+    if let Some(status) = run_familiar(rt, words.as_slice()) {
+        return Ok(status);
+    }
     match job(alloc, words.as_slice()) {
         Ok(Command::Job(job)) => perform_job(rt, &job),
         Ok(Command::Serve(words)) => {

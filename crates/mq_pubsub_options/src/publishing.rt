@@ -1,0 +1,143 @@
+//! The arguments of `mqtt pub`.
+
+ghost use Rattle.std.specs.Prelude.{◌≡◌, codes, map, option_map, string_bytes, IfOk};
+ghost use Rattle.clap.specs.Words.{first_value, found_of};
+ghost use Rattle.clap.specs.declared.parser.matches.Found.{Found};
+ghost use Rattle.mq_pubsub_options.specs.Options.{IsKind, IsPublish, IsTopicOf};
+
+use crate::address::Defaults;
+use crate::common::{Common, common_of};
+use crate::fault::OptionFault;
+use crate::grammar::publish_command;
+use crate::values::{all_of, duration_of, flag_of, name_of, said};
+use clap::ArgMatches;
+use mq_topic::TopicName;
+use std::alloc::Global;
+
+/// The payloads to publish.
+#[derive(Debug, Drop)]
+pub enum Payloads<'a> {
+    /// These texts.
+    Texts(Vec<&'a str>),
+    /// The contents of the file of this name.
+    File(&'a str),
+    /// The standard input as one message.
+    Whole,
+    /// Each line of the standard input.
+    Lines,
+    /// One empty payload.
+    Empty,
+}
+
+/// The arguments of `mqtt pub`.
+#[derive(Drop)]
+pub struct PublishWords<'a> {
+    /// The options that `sub` has too.
+    pub common: Common,
+    /// The topic.
+    pub topic: TopicName,
+    /// The payloads.
+    pub payloads: Payloads<'a>,
+    /// The broker retains the last message.
+    pub retain: bool,
+    /// How many times the payloads are published.
+    pub repeat: u32,
+    /// The wait before each message but the first, in milliseconds.
+    pub delay: u64,
+}
+
+// The payloads of the one kind that is there.
+fn payloads_of<'a>(
+    alloc: Global,
+    texts: Vec<&'a str>,
+    file: Option<&'a str>,
+    whole: bool,
+    lines: bool,
+    empty: bool,
+) -> Result<Payloads<'a>, OptionFault>
+    ensures { IfOk result (IsKind (map (λ text. text.now) texts.entry.items)
+        (option_map (λ name. name.now) file.entry) whole lines empty) }
+{
+    match (texts.is_empty(), file, whole, lines, empty) {
+        (false, None, false, false, false) => Ok(Payloads::Texts(texts)),
+        (true, Some(file), false, false, false) => Ok(Payloads::File(file)),
+        (true, None, true, false, false) => Ok(Payloads::Whole),
+        (true, None, false, true, false) => Ok(Payloads::Lines),
+        (true, None, false, false, true) => Ok(Payloads::Empty),
+        (true, None, false, false, false) => Err(said(
+            alloc,
+            "there is no message to publish: give -m TEXT, -f FILE, -s, -l or -n",
+        )),
+        _ => Err(said(
+            alloc,
+            "there is more than one kind of message: give only one of -m, -f, -s, -l and -n",
+        )),
+    }
+}
+
+// The topic of `-t`, or of `-L`.
+fn topic_of(
+    alloc: Global,
+    matches: &ArgMatches<'_>,
+    common: &Common,
+) -> Result<TopicName, OptionFault>
+    ensures { IfOk result (IsTopicOf (first_value (found_of matches.now) (codes "TOPIC"))
+        (option_map string_bytes common.now.address.topic)) }
+{
+    if let Some(text) = matches.get_str("TOPIC") {
+        return name_of(alloc, "-t", text);
+    }
+    match &common.address.topic {
+        Some(text) => name_of(alloc, "-L", text.as_str()),
+        None => Err(said(alloc, "there is no topic to publish to: give -t TOPIC")),
+    }
+}
+
+// The arguments that the parser matched.
+fn matched<'a>(
+    alloc: Global,
+    matches: &ArgMatches<'a>,
+    defaults: Defaults,
+) -> Result<PublishWords<'a>, OptionFault>
+    ensures { IfOk result (IsPublish (found_of matches.now)) }
+{
+    let common = common_of(alloc, matches, defaults)?;
+    let topic = topic_of(alloc, matches, &common)?;
+    let payloads = payloads_of(
+        alloc,
+        all_of(alloc, matches, "TEXT")?,
+        matches.get_str("FILE"),
+        flag_of(matches, "WHOLE"),
+        flag_of(matches, "LINES"),
+        flag_of(matches, "EMPTY"),
+    )?;
+    let repeat: Option<u32> = matches.get_one("REPEAT");
+    let delay = duration_of(alloc, matches, "DELAY", "--delay")?;
+    Ok(PublishWords {
+        common,
+        topic,
+        payloads,
+        retain: flag_of(matches, "RETAIN"),
+        repeat: repeat.unwrap_or(1),
+        delay: delay.unwrap_or(0),
+    })
+}
+
+/// Reads the arguments of `mqtt pub`, without the name of the program and of the command.
+pub fn publish_words<'a>(
+    alloc: Global,
+    words: &'a [&'a str],
+    defaults: Defaults,
+) -> Result<PublishWords<'a>, OptionFault>
+    ensures { IfOk result (λ own. (given : Found) × IsPublish given own) }
+{
+    let command = publish_command(alloc)?.no_binary_name(true);
+    let matches = match command.try_get_matches_from(words) {
+        Ok(matches) => matches,
+        Err(error) => {
+            drop(defaults);
+            return Err(OptionFault::from(error));
+        }
+    };
+    matched(alloc, &matches, defaults)
+}

@@ -1,0 +1,82 @@
+//! The lines of `mqtt sub`.
+
+ghost use Rattle.std.specs.Prelude.{OnOk};
+ghost use Rattle.std.specs.Io.KnownBytes.{Appends};
+
+use mq_format::{Envelope, Moment, Style};
+use mq_packet::{Message, PacketId, Request};
+use mq_pubsub::{Notice, Printer, RunError};
+use mq_stream::{OnInterrupt, write_bytes};
+use std::alloc::Global;
+use std::io;
+use std::io::Write;
+use std::time::Clock;
+
+/// The last second before the year 10000, since 1970.
+const LAST_SECOND: u64 = 253_402_300_799;
+
+/// The printer of messages.
+#[derive(Drop)]
+pub(crate) struct Lines<'a, R> {
+    pub(crate) rt: &'a R,
+    pub(crate) alloc: Global,
+    pub(crate) style: &'a Style,
+    pub(crate) has_line_end: bool,
+    pub(crate) requests: &'a [Request],
+    pub(crate) is_quiet: bool,
+    /// The number of messages that were printed.
+    pub(crate) printed: u64,
+}
+
+// The time now, in UTC.
+fn moment_of<R: Clock>(rt: &R) -> Moment {
+    match rt.since_1970() {
+        Ok(time) => Moment::new(time.as_secs().min(LAST_SECOND), time.subsec_nanos()),
+        Err(_) => Moment::new(0, 0),
+    }
+}
+
+// Writes a line, and flushes.
+fn write_line<W: Write>(output: &mut W, line: &[u8]) -> Result<(), RunError>
+    ensures { OnOk result
+        (Appends (W.contents output.old) (W.contents output.new) line.now) }
+{
+    if write_bytes(output, line, &mut OnInterrupt).is_err() || output.flush().is_err() {
+        return Err(RunError::Output);
+    }
+    Ok(())
+}
+
+impl<R: Clock + Print + Eprint> Printer for Lines<'_, R> {
+    fn print(&mut self, message: &Message, id: Option<PacketId>) -> Result<(), RunError> {
+        let envelope = Envelope {
+            message,
+            id,
+            moment: moment_of(self.rt),
+        };
+        let line = self.style.line(self.alloc, &envelope, self.has_line_end)?;
+        write_line(&mut io::writer(self.rt), line.as_slice())?;
+        self.printed = self.printed.saturating_add(1);
+        Ok(())
+    }
+
+    fn notice(&mut self, notice: Notice) {
+        if self.is_quiet {
+            return;
+        }
+        let _ = match notice {
+            Notice::Refused(index) => match self.requests.get(index) {
+                Some(request) => {
+                    let filter = request.filter.as_str();
+                    eprintln!(self.rt;
+                        "mqtt sub: the broker refused the subscription to '{filter}'; check the rights of the user."
+                    )
+                }
+                None => Ok(()),
+            },
+            Notice::SessionLost => eprintln!(self.rt;
+                "mqtt sub: the broker lost the session, so messages may be missing; subscribing anew."
+            ),
+        };
+    }
+}

@@ -1,0 +1,177 @@
+//! Sessions in files.
+
+use crate::common::said;
+use mq_client::{Disk, SessionFile, SessionLock, SystemDisk, linked_name};
+use mq_end::ClientEnd;
+use mq_flow::{LoadError, Saved};
+use mq_pubsub::Setup;
+use mq_pubsub_options::OptionFault;
+use mq_wire::Text;
+use std::alloc::Global;
+use std::fs::File;
+use std::io::ErrorKind;
+use std::rt::Files;
+
+/// The session in a file, which this run alone uses.
+#[derive(Drop)]
+pub(crate) struct Session<'a, R: Files<File = File>> {
+    rt: &'a R,
+    alloc: Global,
+    /// The name of the file, without symbolic links.
+    pub(crate) name: String,
+    lock: SessionLock<'a, R>,
+    form: Option<Vec<u8>>,
+    /// The file says that the broker lost the session.
+    pub(crate) is_lost: bool,
+}
+
+// The error of a session file.
+fn fault<'a>(alloc: Global, name: &'a str, why: &'a str, advice: &'a str) -> OptionFault {
+    match format!(in alloc; "the session file '{name}' {why}: {advice}") {
+        Ok(said) => OptionFault::Said(said),
+        Err(_) => OptionFault::Memory,
+    }
+}
+
+// The form of a session without its mark, and whether it has one.
+fn unmarked(alloc: Global, bytes: Vec<u8>) -> Result<(Vec<u8>, bool), OptionFault> {
+    match bytes.as_slice() {
+        [b'L', b'O', b'S', b'T', form @ ..] => Ok((form.to_vec(alloc)?, true)),
+        _ => Ok((bytes, false)),
+    }
+}
+
+impl<'a, R: Files<File = File>> Session<'a, R> {
+    /// The session in the file of this name, if there is one.
+    pub(crate) fn open(
+        rt: &'a R,
+        alloc: Global,
+        name: &str,
+    ) -> Result<Session<'a, R>, OptionFault> {
+        let Ok(linked) = linked_name(rt, alloc, name) else {
+            return Err(fault(alloc, name, "cannot be used", "check its name"));
+        };
+        let lock = match SessionLock::take(rt, alloc, linked.as_str()) {
+            Ok(Some(lock)) => lock,
+            Ok(None) => {
+                let advice = "wait for that run to end, or name another file";
+                return Err(fault(alloc, name, "is used by another run", advice));
+            }
+            Err(_) => {
+                let advice = "check that its folder can be written";
+                return Err(fault(alloc, name, "cannot be locked", advice));
+            }
+        };
+        let (form, is_lost) = match SystemDisk(rt).read(alloc, linked.as_str()) {
+            Ok(Some(bytes)) => {
+                let (form, is_lost) = unmarked(alloc, bytes)?;
+                (Some(form), is_lost)
+            }
+            Ok(None) => (None, false),
+            Err(error) => {
+                lock.release();
+                if error.kind() == ErrorKind::OutOfMemory {
+                    return Err(OptionFault::Memory);
+                }
+                return Err(fault(
+                    alloc,
+                    name,
+                    "cannot be read",
+                    "check its name and its rights",
+                ));
+            }
+        };
+        Ok(Session {
+            rt,
+            alloc,
+            name: linked,
+            lock,
+            form,
+            is_lost,
+        })
+    }
+
+    /// The file has a session.
+    pub(crate) fn is_there(&self) -> bool {
+        self.form.is_some()
+    }
+
+    /// The identifier of the client that the session belongs to.
+    pub(crate) fn client_id(&self) -> Result<Option<Text>, OptionFault> {
+        match &self.form {
+            Some(form) => match Saved::load(self.alloc, form.as_slice()) {
+                Ok(saved) => Ok(match &saved.client {
+                    Some(id) => Some(id.clone()?),
+                    None => None,
+                }),
+                Err(why) => Err(self.unloaded(why)),
+            },
+            None => Ok(None),
+        }
+    }
+
+    // The error of a form that is not a session of the client.
+    fn unloaded(&self, why: LoadError) -> OptionFault {
+        match why {
+            LoadError::Memory => OptionFault::Memory,
+            LoadError::AnotherClient => fault(
+                self.alloc,
+                self.name.as_str(),
+                "has the session of another client identifier",
+                "give that with -i, or name another file",
+            ),
+            _ => fault(
+                self.alloc,
+                self.name.as_str(),
+                "has no session",
+                "remove it, or name another file",
+            ),
+        }
+    }
+
+    /// The client with the session, or a new one.
+    pub(crate) fn client(&self, setup: &Setup) -> Result<ClientEnd, OptionFault> {
+        match &self.form {
+            Some(form) => match setup.saved_client(self.alloc, form.as_slice()) {
+                Ok(client) => Ok(client),
+                Err(why) => Err(self.unloaded(why)),
+            },
+            None => Ok(setup.client(self.alloc)?),
+        }
+    }
+
+    /// The file, for the saver of a run.
+    pub(crate) fn file(&self) -> SessionFile<'_, SystemDisk<'a, R>> {
+        SessionFile::new(self.alloc, SystemDisk(self.rt), self.name.as_str())
+    }
+
+    /// Ends the use of the file.
+    pub(crate) fn close(self) {
+        let Session {
+            rt: _,
+            alloc: _,
+            name,
+            lock,
+            form,
+            is_lost: _,
+        } = self;
+        drop(name);
+        drop(form);
+        lock.release();
+    }
+
+    /// The error of a session that the broker lost in an earlier run.
+    pub(crate) fn lost(&self) -> OptionFault {
+        fault(
+            self.alloc,
+            self.name.as_str(),
+            "has a session that the broker lost, so some of its messages may not have arrived",
+            "remove the file to give them up",
+        )
+    }
+}
+
+/// The error of a clock that can't be read.
+pub(crate) fn no_clock(alloc: Global) -> OptionFault {
+    said(alloc, "the system's clock cannot be read: check the system")
+}

@@ -1,0 +1,8 @@
+use Rattle.std.proofs.Common.{◌≡◌}
+use Rattle.mq_pubsub_runs.specs.Posting.{Fills}
+use Rattle.mq_pubsub_runs.proofs.outbox.Outbox.fill.Given as goal
+
+abbrev pub invariant-loop : goal.invariant-loop
+invariant-loop g l =
+    Fills l.initial.peer l.peer l.initial.self.next l.self.next l.initial.self.unwritten l.self.unwritten (g.M.Source.given l.initial.source) (g.M.Source.given l.source)
+    × (l.self.lost ≡ l.initial.self.lost)

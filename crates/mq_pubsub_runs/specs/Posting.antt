@@ -1,0 +1,120 @@
+-- What a publisher does, over one connection after another.
+use Rattle.std.specs.Prelude.{◌≡◌, ⊤, ℕ, Bool, true, false, List, [], ◌∷◌, ◌++◌, map, Option, Some, None, Result, Ok, Err, option_to_list}
+use Rattle.std.specs.List.{filter}
+use Rattle.std.specs.Io.KnownBytes.{Appends}
+use Rattle.mq_topic.specs.declared.qos.Qos.{Qos}
+use Rattle.mq_topic.specs.declared.qos.Qos.TheVariants.{Q0, Q1, Q2}
+use Rattle.mq_packet.specs.declared.message.Message.{Message}
+use Rattle.mq_end.specs.declared.happening.Happening.{Happening}
+use Rattle.mq_end.specs.declared.reason.CloseReason.{CloseReason}
+use Rattle.mq_end.specs.Publishing.{ClientState}
+use Rattle.mq_client.specs.Course.{IsIdle, Leaves, Moment, Opening, Publication, Went, WentFirst}
+use Rattle.mq_pubsub.specs.Printing.{Shows}
+use Rattle.mq_pubsub_runs.specs.declared.stop.Stop.{Stop}
+use Rattle.mq_pubsub_runs.specs.declared.stop.Stop.TheVariants.{Connection, Application}
+
+abbrev pub is_q0 : Qos → Bool
+is_q0 Q0 = true
+is_q0 Q1 = false
+is_q0 Q2 = false
+
+-- the messages that no session stores: those of QoS 0 (4.3.1)
+abbrev pub unstored : List Message → List Message
+unstored messages = filter (λ message. is_q0 message.qos) messages
+
+-- Messages were published, and then the whole output was sent.
+pub record Sent (a b : Moment) (messages : List Message) : Type 0 where
+  pub last : Moment
+  pub published : Went a last (map Publication messages) [] []
+  pub whole : Appends last.written b.written last.client.link.output
+  pub after : Went last b [] [] []
+
+-- From one moment to another a publisher published these messages, in order, over one connection
+-- after another. The second list has those of QoS 0 that may not have been written.
+pub data Posted (a : Moment) : Moment → List Message → List Message → Type 0 where
+  Begins : Posted a a [] []
+  -- A connection begins. A session is discarded only if it has no unacknowledged message (3.1.2.4).
+  Opens : (b c : Moment) (messages lost : List Message) (clean : Bool) → Posted a b messages lost → (clean ≡ true → IsIdle b.client.link.end)
+      → WentFirst b c (Opening clean ∷ []) [] [] → Posted a c messages lost
+  -- messages are published, and the whole output is sent
+  Sends : (b c : Moment) (messages lost more : List Message) → Posted a b messages lost → Sent b c more → Posted a c (messages ++ more) lost
+  -- messages are published, and the output is sent in part, or not
+  Breaks : (b c : Moment) (messages lost more : List Message) → Posted a b messages lost → Went b c (map Publication more) [] []
+      → Posted a c (messages ++ more) (lost ++ unstored more)
+  -- packets are received, and answered
+  Hears : (b c : Moment) (messages lost : List Message) (told : List Happening) (reasons : List CloseReason) → Posted a b messages lost
+      → Went b c [] told reasons → Posted a c messages lost
+  -- a new connection continues with the session
+  Continues : (b c : Moment) (messages lost : List Message) → Posted a b messages lost → c.client ≡ b.client → c.kept ≡ b.kept → Posted a c messages lost
+
+-- Messages were taken from a source and published. `next` and `later` are the messages that were
+-- taken and not published, before and after. `lost` and `missing` count the messages of QoS 0 that
+-- may not have been written, before and after.
+pub record Progress (a b : Moment) (next later : Option Message) (lost missing : ℕ) (given taken : Option (List Message)) : Type 0 where
+  pub messages : List Message
+  pub unwritten : List Message
+  pub fresh : List Message
+  pub posted : Posted a b messages unwritten
+  pub shown : Shows given taken fresh
+  pub parts : option_to_list next ++ fresh ≡ messages ++ option_to_list later
+  pub none_before : missing ≡ 0 → lost ≡ 0
+  pub none : missing ≡ 0 → unwritten ≡ []
+
+-- At most the next message was published. `unwritten` and `pending` count those of QoS 0 in the
+-- output, before and after.
+pub record Publishes (a b : Moment) (next later : Option Message) (unwritten pending : ℕ) : Type 0 where
+  pub messages : List Message
+  pub published : Went a b (map Publication messages) [] []
+  pub parts : option_to_list next ≡ messages ++ option_to_list later
+  pub none_before : pending ≡ 0 → unwritten ≡ 0
+  pub none : pending ≡ 0 → unstored messages ≡ []
+
+-- Messages were taken from a source and published, and the output is not sent yet.
+pub record Fills (a b : Moment) (next later : Option Message) (unwritten pending : ℕ) (given taken : Option (List Message)) : Type 0 where
+  pub messages : List Message
+  pub fresh : List Message
+  pub published : Went a b (map Publication messages) [] []
+  pub shown : Shows given taken fresh
+  pub parts : option_to_list next ++ fresh ≡ messages ++ option_to_list later
+  pub none_before : pending ≡ 0 → unwritten ≡ 0
+  pub none : pending ≡ 0 → unstored messages ≡ []
+
+-- These messages were published, and the run stopped early.
+pub record PartPosted (a b : Moment) : Type 0 where
+  pub messages : List Message
+  pub unwritten : List Message
+  pub posted : Posted a b messages unwritten
+
+-- the progress so far, if the work over a connection ended early for this reason
+abbrev pub ProgressUntil : Moment → Moment → Option Message → Option Message → ℕ → ℕ → Option (List Message) → Option (List Message) → Stop → Type 0
+ProgressUntil a b next later lost missing given taken (Connection error) = Progress a b next later lost missing given taken
+ProgressUntil a b next later lost missing given taken (Application error) = PartPosted a b
+
+-- All messages were published and nothing was lost. Everything is acknowledged, and then the client
+-- left.
+pub record Finishes (a b : Moment) (next : Option Message) (lost : ℕ) (given taken : Option (List Message)) : Type 0 where
+  pub last : Moment
+  pub progress : Progress a last next None lost 0 given taken
+  pub idle : IsIdle last.client.link.end
+  pub leaves : Leaves last b
+  pub whole : Posted last b [] []
+
+-- The work over a connection is done, or it ended early.
+abbrev pub PublishEnds : Moment → Moment → Option Message → Option Message → ℕ → ℕ → Option (List Message) → Option (List Message) → Result ⊤ Stop → Type 0
+PublishEnds a b next later lost missing given taken (Ok done) = Finishes a b next lost given taken
+PublishEnds a b next later lost missing given taken (Err stop) = ProgressUntil a b next later lost missing given taken stop
+
+-- A client and its stored session, at a moment.
+pub record StartsWith (a : Moment) (client : ClientState) (kept : Option (List ℕ)) : Type 0 where
+  pub client_is : a.client ≡ client
+  pub kept_is : a.kept ≡ kept
+
+-- Every message that the source gave was published, in order. Each of QoS 0 was sent, and each of
+-- QoS 1 and 2 is acknowledged (4.3.2, 4.3.3). Then the client left.
+pub record AllPosted (a b : Moment) (given taken : Option (List Message)) : Type 0 where
+  pub last : Moment
+  pub messages : List Message
+  pub posted : Posted a last messages []
+  pub shown : Shows given taken messages
+  pub idle : IsIdle last.client.link.end
+  pub leaves : Leaves last b
