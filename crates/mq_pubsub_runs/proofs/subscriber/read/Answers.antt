@@ -1,4 +1,4 @@
-use Rattle.std.proofs.Common.{subst, option_to_list}
+use Rattle.std.proofs.Common.{option_to_list}
 use Rattle.std.proofs.lemmas.Result.{err_from_is_err_and}
 use Rattle.mq_pubsub_runs.proofs.Watchings.{unprinted, until_connection, watched_read, watched_sent}
 use Rattle.mq_pubsub_runs.proofs.subscriber.read.Goals as goal

@@ -1,4 +1,3 @@
-use Rattle.std.proofs.Common.{refl, sym}
 use Rattle.std.proofs.lemmas.Result.{err_from_is_err_and}
 use Rattle.mq_pubsub_runs.proofs.Watchings.{Watched-append, left_ends, until_connection, until_then, watched_opened, watched_then_sent}
 use Rattle.mq_pubsub_runs.proofs.subscriber.subscribe_over.Goals as goal
