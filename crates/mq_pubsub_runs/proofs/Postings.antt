@@ -1,5 +1,5 @@
 -- The work of a publisher, part after part.
-use Rattle.std.proofs.Common.{◌≡◌, ℕ, Bool, true, false, List, [], ◌∷◌, ◌++◌, map, Option, Some, None, Result, Ok, Err, refl, sym, ap, subst, ◌∙◌, append-nil, append_assoc, option_to_list, OnErr, OnOk, IfErr}
+use Rattle.std.proofs.Common.{◌≡◌, ℕ, Bool, true, false, List, [], ◌∷◌, ◌++◌, map, Option, Some, None, Result, Ok, Err, cond, refl, sym, ap, subst, ◌∙◌, append-nil, append_assoc, option_to_list, OnErr, OnOk, IfErr}
 use Rattle.std.specs.Bool.{⊤}
 use Rattle.std.proofs.lemmas.List.{map-append}
 use Rattle.std.proofs.lemmas.List.Elements.{filter-append}
@@ -172,6 +172,10 @@ publishes_same a b next unwritten went = record { messages = []; published = wen
 pub publishes_one : (a b : Moment) (message : Message) (unwritten pending : ℕ) → Went a b (Publication message ∷ []) [] [] → (pending ≡ 0 → unwritten ≡ 0)
     → (pending ≡ 0 → unstored (message ∷ []) ≡ []) → Publishes a b (Some message) None unwritten pending
 publishes_one a b message unwritten pending went before none = record { messages = message ∷ []; published = went; parts = refl; none_before = before; none = none }
+
+-- a session stores the message
+pub stored_one : (message : Message) → is_q0 message.qos ≡ false → unstored (message ∷ []) ≡ []
+stored_one message stored = ap (λ b. cond b (message ∷ []) []) stored
 
 -- the messages so far and those of the next part
 pub part_then : (a b c : Moment) (next later : Option Message) (unwritten pending : ℕ) (given taken : Option (List Message)) → Fills a b next later unwritten pending given taken

@@ -43,6 +43,15 @@ first_whole a b ms went = record { asks = ms; rest = []; parts = sym (append-nil
 pub first_still : (a b c : Moment) (all : List Ask) → WentFirst a b all [] [] → Went b c [] [] [] → WentFirst a c all [] []
 first_still a b c all p q = record { asks = p.asks; rest = p.rest; parts = p.parts; went = went_still a b c p.asks [] [] p.went q }
 
+-- the second part was made too, or it was refused
+pub request_ok : {T E : Type 0} → (r : Result T E) (a b c : Moment) (ms ns : List Ask) → Went a b ms [] [] → OnOk r (Went b c ns [] []) → OnOk r (Went a c (ms ++ ns) [] [])
+request_ok (Ok x) a b c ms ns p q = first_parts a b c ms ns p q
+request_ok (Err e) a b c ms ns p q = tt
+
+pub request_err : {T E : Type 0} → (r : Result T E) (a b c : Moment) (ms ns : List Ask) → Went a b ms [] [] → OnErr r (Went b c [] [] []) → OnErr r (WentFirst a c (ms ++ ns) [] [])
+request_err (Ok x) a b c ms ns p q = tt
+request_err (Err e) a b c ms ns p q = first_part a b c ms ns p q
+
 module _ (options : SubscribeOptions) where
   pub Watched-append : (a : Moment) (i : Inbox) (s : Option (List Message)) (b : Moment) (j : Inbox) (t : Option (List Message)) → Watched options a i s b j t
       → (c : Moment) (k : Inbox) (u : Option (List Message)) → Watched options b j t c k u → Watched options a i s c k u

@@ -62,6 +62,7 @@ pub(crate) struct Outbox {
 fn open_messages(client: &ClientEnd) -> u64 {
     match client.session() {
         Some(session) => {
+            let _capacity = session.sender.capacity();
             let entries = u64::try_from(session.sender.entries().count()).unwrap_or(u64::MAX);
             let released = u64::try_from(session.sender.released()).unwrap_or(u64::MAX);
             entries.saturating_add(released)

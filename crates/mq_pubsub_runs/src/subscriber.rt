@@ -282,7 +282,9 @@ fn subscribe_next<S: Stream + Drop, C: Clock + Drop, K: SessionSaver, N: Network
             end: Err(redial.missed()),
         };
     };
-    subscribe_once(sitting, connection, network, inbox, options, printer, redial)
+    subscribe_once(
+        sitting, connection, network, inbox, options, printer, redial,
+    )
 }
 
 // Replaces the client by a new one if the server lost the session.
@@ -363,14 +365,7 @@ pub fn subscribe<S: Stream + Drop, C: Clock + Drop, K: SessionSaver, N: Network<
         end,
     };
     for _ in 0..u64::MAX {
-        sitting = subscribe_next(
-            sitting,
-            network,
-            &mut inbox,
-            options,
-            printer,
-            &mut redial,
-        );
+        sitting = subscribe_next(sitting, network, &mut inbox, options, printer, &mut redial);
         if let Some(end) = redial.next(sitting.end, true, network) {
             return end_of(sitting, inbox, end);
         }

@@ -3,5 +3,5 @@ use Rattle.mq_pubsub_runs.proofs.publisher.publish.Given as goal
 
 abbrev pub invariant-loop : goal.invariant-loop
 invariant-loop g l =
-    PostedSoFar l.initial.client (g.K.SessionSaver.kept l.initial.keeper) l.sitting.client (g.K.SessionSaver.kept l.sitting.keeper)
-    l.outbox.next l.outbox.lost (g.M.Source.given l.initial.source) (g.M.Source.given l.source)
+    PostedSoFar l.fn.client (g.K.SessionSaver.kept l.fn.keeper) l.sitting.client (g.K.SessionSaver.kept l.sitting.keeper)
+    l.outbox.next l.outbox.lost (g.M.Source.given l.fn.source) (g.M.Source.given l.source)

@@ -3,4 +3,4 @@ use Rattle.mq_pubsub_runs.proofs.subscriber.subscribe_over.Given as goal
 
 abbrev pub invariant-loop : goal.invariant-loop
 invariant-loop g l =
-    Watched l.options l.initial.peer l.initial.inbox (g.P.Printer.shown l.initial.printer) l.peer l.inbox (g.P.Printer.shown l.printer)
+    Watched l.options l.fn.peer l.fn.inbox (g.P.Printer.shown l.fn.printer) l.peer l.inbox (g.P.Printer.shown l.printer)

@@ -1,0 +1,9 @@
+use Rattle.std.proofs.Common.{length, ◌≤◌, arith}
+use Rattle.std.proofs.lemmas.List.{length-append}
+use Rattle.mq_pubsub_runs.proofs.packet_stream.PacketStreamStream.read.Goals as goal
+
+pub slice_bounds-note-end : goal.slice_bounds-note-end
+slice_bounds-note-end g c =
+    let read = c.in-Some.ensures.read (g.S.Stream.coming c.args.self.now.inner) (g.S.Stream.coming c.read-outcome.new.self) c.read-outcome.new.buffer c.read-outcome.ensures.comes in
+    let within : c.in-Some.count ≤ length c.read-outcome.new.buffer = read.0 in
+    rw length-append (omega arith)
