@@ -2,25 +2,25 @@
 //! one.
 
 use crate::fields::{add_hex, bytes_of};
-use crate::outcomes::{Way, take};
+use crate::outcomes::{Taking, encoded, take};
 use crate::words::Words;
 use crate::wrong::Wrong;
 use mq_decode::{DecodeError, Decoder, Limits};
-use mq_packet::{Packet, encode_into};
+use mq_packet::Packet;
 use std::alloc::Global;
 
 // A decoder, with all packets so far.
 #[derive(Drop)]
 struct Reading {
-    way: Way,
+    taking: Taking,
     decoder: Decoder,
     out: Vec<Packet>,
 }
 
 impl Reading {
-    fn new(alloc: Global, way: Way, limits: Limits) -> Reading {
+    fn new(alloc: Global, taking: Taking, limits: Limits) -> Reading {
         Reading {
-            way,
+            taking,
             decoder: Decoder::new(alloc, limits),
             out: Vec::new(alloc),
         }
@@ -34,22 +34,13 @@ impl Reading {
 
     // `feed BYTES`: the counts after a piece, or its fault and the total number of packets.
     fn feed(&mut self, piece: &[u8], told: &mut String) -> Result<(), Wrong> {
-        match take(self.way, &mut self.decoder, piece, &mut self.out) {
+        match take(self.taking, &mut self.decoder, piece, &mut self.out) {
             Ok(()) => self.add_counts(told),
             Err(DecodeError::Fault(fault)) => {
                 Ok(write!(told, "{} {} {}", fault.kind, fault.place, self.out.len())?)
             }
             Err(DecodeError::Memory) => Err(Wrong::Memory),
         }
-    }
-
-    // `encoded`: the encoding of all packets.
-    fn add_encoded(&self, alloc: Global, told: &mut String) -> Result<(), Wrong> {
-        let mut bytes = Vec::new(alloc);
-        for packet in &self.out {
-            encode_into(packet, &mut bytes)?;
-        }
-        Ok(add_hex(told, bytes.as_slice())?)
     }
 
     fn tell(
@@ -67,7 +58,10 @@ impl Reading {
                 self.decoder.reset();
                 self.add_counts(told)
             }
-            "encoded" => self.add_encoded(alloc, told),
+            "encoded" => {
+                let bytes = encoded(alloc, self.out.as_slice())?;
+                Ok(add_hex(alloc, told, bytes.as_slice())?)
+            }
             _ => Err(Wrong::Words),
         }
     }
@@ -76,16 +70,16 @@ impl Reading {
 /// Decoders that get the same pieces.
 #[derive(Drop)]
 pub(crate) struct Decoders {
-    feed: Reading,
-    next: Reading,
+    all: Reading,
+    each: Reading,
 }
 
 impl Decoders {
     /// Both without bytes.
     pub(crate) fn new(alloc: Global, limits: Limits) -> Decoders {
         Decoders {
-            feed: Reading::new(alloc, Way::Feed, limits),
-            next: Reading::new(alloc, Way::Next, limits),
+            all: Reading::new(alloc, Taking::All, limits),
+            each: Reading::new(alloc, Taking::Each, limits),
         }
     }
 
@@ -98,8 +92,8 @@ impl Decoders {
     ) -> Result<(), Wrong> {
         let mut again = *words;
         let mut other = String::new(alloc);
-        self.feed.tell(alloc, words, told)?;
-        self.next.tell(alloc, &mut again, &mut other)?;
+        self.all.tell(alloc, words, told)?;
+        self.each.tell(alloc, &mut again, &mut other)?;
         if other.as_str() != told.as_str() {
             write!(told, ", but {} one by one", other.as_str())?;
         }

@@ -2,6 +2,7 @@
 
 use crate::fields::{add_hex, shared_of};
 use crate::packets::{connect, delivery, message, packet, publish};
+use crate::texts::parsed_in;
 use crate::words::Words;
 use crate::wrong::Wrong;
 use bytes::Bytes;
@@ -9,15 +10,15 @@ use mq_packet::{
     Binary, Connect, EncodeError, Message, Packet, PacketId, Payload, Publish, RefusalCode,
     SubAckCode, WriteError, encode_into, encode_publish_into, encoded_len, write_packet,
 };
-use mq_topic::{Qos, TopicName};
+use mq_topic::Qos;
 use std::alloc::{AllocError, Global};
 use std::io;
 use std::io::{ErrorKind, Write};
 
 // Adds the bytes behind the first one, which must be ff.
-fn add_behind(told: &mut String, out: &[u8]) -> Result<(), AllocError> {
+fn add_behind(alloc: Global, told: &mut String, out: &[u8]) -> Result<(), AllocError> {
     match out.split_first() {
-        Some((0xff, added)) => add_hex(told, added),
+        Some((0xff, added)) => add_hex(alloc, told, added),
         _ => told.push_str("another front"),
     }
 }
@@ -26,7 +27,7 @@ fn add_behind(told: &mut String, out: &[u8]) -> Result<(), AllocError> {
 fn add_encoded(alloc: Global, packet: &Packet, told: &mut String) -> Result<(), Wrong> {
     let mut out = vec![in alloc; 0xff]?;
     encode_into(packet, &mut out)?;
-    add_behind(told, out.as_slice())?;
+    add_behind(alloc, told, out.as_slice())?;
     let size = encoded_len(packet).ok_or(Wrong::Bytes)?;
     if out.len() - 1 != size as usize {
         write!(told, " of size {size}")?;
@@ -48,13 +49,13 @@ fn in_place(alloc: Global, words: &mut Words<'_>, told: &mut String) -> Result<(
     let message = message(alloc, words, qos)?;
     let mut out = vec![in alloc; 0xff]?;
     encode_publish_into(&message, delivery, &mut out)?;
-    Ok(add_behind(told, out.as_slice())?)
+    Ok(add_behind(alloc, told, out.as_slice())?)
 }
 
-fn add_payload_of_clone(told: &mut String, publish: &Publish) -> Result<(), Wrong> {
+fn add_payload_of_clone(alloc: Global, told: &mut String, publish: &Publish) -> Result<(), Wrong> {
     let copy = publish.clone()?;
     let message = copy.into_message();
-    Ok(add_hex(told, message.payload.as_slice())?)
+    Ok(add_hex(alloc, told, message.payload.as_slice())?)
 }
 
 // `parts QOS [ID DUP] TOPIC PAYLOAD`: the delivery and the topic of a PUBLISH, and the payload of a
@@ -65,7 +66,7 @@ fn parts(alloc: Global, words: &mut Words<'_>, told: &mut String) -> Result<(), 
         write!(told, "{} {} ", delivery.id.get(), delivery.dup)?;
     }
     write!(told, "{} ", publish.message().topic.as_str())?;
-    add_payload_of_clone(told, &publish)
+    add_payload_of_clone(alloc, told, &publish)
 }
 
 // Adds the fields of a CONNECT.
@@ -85,10 +86,10 @@ fn boxed(alloc: Global, words: &mut Words<'_>, told: &mut String) -> Result<(), 
     Ok(add_connect(told, &connect)?)
 }
 
-fn add_message(told: &mut String, message: &Message) -> Result<(), AllocError> {
+fn add_message(alloc: Global, told: &mut String, message: &Message) -> Result<(), AllocError> {
     let (qos, retain) = (message.qos, message.retain);
     write!(told, "{} {qos:?} {retain} ", message.topic.as_str())?;
-    add_hex(told, message.payload.as_slice())
+    add_hex(alloc, told, message.payload.as_slice())
 }
 
 // `will CONNECT`: the message of its will.
@@ -97,7 +98,7 @@ fn will_message(alloc: Global, words: &mut Words<'_>, told: &mut String) -> Resu
     match &connect.as_connect().will {
         Some(will) => {
             let message = will.message()?;
-            Ok(add_message(told, &message)?)
+            Ok(add_message(alloc, told, &message)?)
         }
         None => Err(Wrong::Words),
     }
@@ -114,17 +115,17 @@ fn binary(alloc: Global, words: &mut Words<'_>, told: &mut String) -> Result<(),
         return Ok(());
     }
     told.push_str(" ")?;
-    add_hex(told, binary.as_bytes().as_slice())?;
+    add_hex(alloc, told, binary.as_bytes().as_slice())?;
     told.push_str(" ")?;
-    Ok(add_hex(told, binary.into_bytes().as_slice())?)
+    Ok(add_hex(alloc, told, binary.into_bytes().as_slice())?)
 }
 
 // `payload BYTES`: the bytes of a payload, borrowed and by value.
 fn payload(alloc: Global, words: &mut Words<'_>, told: &mut String) -> Result<(), Wrong> {
     let payload = Payload::new(shared_of(alloc, words)?).ok_or(Wrong::Bytes)?;
-    add_hex(told, payload.as_bytes().as_slice())?;
+    add_hex(alloc, told, payload.as_bytes().as_slice())?;
     told.push_str(" ")?;
-    Ok(add_hex(told, payload.into_bytes().as_slice())?)
+    Ok(add_hex(alloc, told, payload.into_bytes().as_slice())?)
 }
 
 // Whether both encoders refuse a packet as too large, and the vector is unchanged.
@@ -137,7 +138,7 @@ fn is_too_large(alloc: Global, packet: &Packet) -> Result<bool, Wrong> {
 
 // A PUBLISH to `a` with QoS 0.
 fn publish_of(alloc: Global, payload: Payload) -> Result<Packet, Wrong> {
-    let topic = TopicName::parse(alloc, "a")?;
+    let topic = parsed_in(alloc, "'a")?;
     let message = Message {
         topic,
         payload,
@@ -147,18 +148,35 @@ fn publish_of(alloc: Global, payload: Payload) -> Result<Packet, Wrong> {
     Ok(Packet::Publish(Publish::new(message, None)))
 }
 
-// `zeros COUNT`: the size of a PUBLISH to `a` with this number of zeros, or that it is too large,
-// and whether both encoders refuse it.
-fn zeros(alloc: Global, words: &mut Words<'_>, told: &mut String) -> Result<(), Wrong> {
-    let bytes = Bytes::from_vec(vec![in alloc; 0; words.count()?]?)?;
+// Adds the size of a PUBLISH to `a` with this payload. If it is too large, adds whether both encoders
+// refuse it.
+fn add_size(alloc: Global, bytes: Bytes, told: &mut String) -> Result<(), Wrong> {
     let Some(payload) = Payload::new(bytes) else {
-        return Ok(told.push_str("no payload")?);
+        return Ok(told.push_str("no payload;")?);
     };
     let packet = publish_of(alloc, payload)?;
     match encoded_len(&packet) {
-        Some(size) => Ok(write!(told, "{size}")?),
-        None => Ok(write!(told, "too large {}", is_too_large(alloc, &packet)?)?),
+        Some(size) => Ok(write!(told, "{size};")?),
+        None => Ok(write!(told, "too large {};", is_too_large(alloc, &packet)?)?),
     }
+}
+
+fn first(bytes: &Bytes, count: usize) -> Result<Bytes, Wrong> {
+    if count > bytes.len() {
+        return Err(Wrong::Words);
+    }
+    Ok(bytes.slice(..count)?)
+}
+
+// `zeros COUNT PART..`: the size of a PUBLISH for the first part of this number of zeros, for each
+// part.
+fn zeros(alloc: Global, words: &mut Words<'_>, told: &mut String) -> Result<(), Wrong> {
+    let bytes = Bytes::from_vec(vec![in alloc; 0; words.number()?]?)?;
+    for part in words.rest() {
+        let payload = first(&bytes, Words::new(part).number()?)?;
+        add_size(alloc, payload, told)?;
+    }
+    Ok(())
 }
 
 // A writer with limited room. It takes at most three bytes a call, is interrupted before each, and
@@ -201,13 +219,13 @@ fn add_written(
         Err(WriteError::Io(error)) => write!(told, "{:?} ", error.kind())?,
         Err(WriteError::Encode(error)) => write!(told, "{error:?} ")?,
     }
-    Ok(add_hex(told, narrow.taken.as_slice())?)
+    Ok(add_hex(alloc, told, narrow.taken.as_slice())?)
 }
 
 // `write ROOM PACKET`: the error of a writer with this room, and the bytes of the packet that it
 // takes.
 fn write(alloc: Global, words: &mut Words<'_>, told: &mut String) -> Result<(), Wrong> {
-    let room = words.count()?;
+    let room = words.number()?;
     let packet = packet(alloc, words)?;
     let mut narrow = Narrow {
         taken: Vec::new(alloc),
@@ -219,7 +237,7 @@ fn write(alloc: Global, words: &mut Words<'_>, told: &mut String) -> Result<(), 
 
 /// `refusal NUMBER`: the code of a refusal with it, and its number.
 pub(crate) fn refusal(words: &mut Words<'_>, told: &mut String) -> Result<(), Wrong> {
-    match RefusalCode::from_number(words.byte()?) {
+    match RefusalCode::from_number(words.number()?) {
         Some(code) => Ok(write!(told, "{code:?} {}", code.number())?),
         None => Ok(told.push_str("none")?),
     }
@@ -227,7 +245,7 @@ pub(crate) fn refusal(words: &mut Words<'_>, told: &mut String) -> Result<(), Wr
 
 /// `suback NUMBER`: the code of a SUBACK with it, and its number.
 pub(crate) fn sub_ack_code(words: &mut Words<'_>, told: &mut String) -> Result<(), Wrong> {
-    match SubAckCode::from_number(words.byte()?) {
+    match SubAckCode::from_number(words.number()?) {
         Some(code) => Ok(write!(told, "{code:?} {}", code.number())?),
         None => Ok(told.push_str("none")?),
     }
@@ -235,7 +253,7 @@ pub(crate) fn sub_ack_code(words: &mut Words<'_>, told: &mut String) -> Result<(
 
 /// `id NUMBER`: the identifier with it.
 pub(crate) fn id(words: &mut Words<'_>, told: &mut String) -> Result<(), Wrong> {
-    match PacketId::new(words.short()?) {
+    match PacketId::new(words.number()?) {
         Some(id) => Ok(write!(told, "{}", id.get())?),
         None => Ok(told.push_str("none")?),
     }

@@ -22,6 +22,7 @@ mod packets;
 mod readers;
 mod stores;
 mod subject;
+mod texts;
 mod topics;
 mod values;
 mod views;

@@ -3,7 +3,8 @@
 ghost use Rattle.std.specs.Prelude.{◌≡◌, true, IfOk};
 ghost use Rattle.mq_packet.specs.Publication.{fits_delivery};
 
-use crate::fields::{binary_of, filter_in, name_of, payload_of, text_of};
+use crate::fields::{binary_of, payload_of};
+use crate::texts::{parsed_in, parsed_of};
 use crate::words::Words;
 use crate::wrong::Wrong;
 use mq_packet::{
@@ -16,7 +17,7 @@ use std::alloc::Global;
 // `will QOS RETAIN TOPIC MESSAGE`
 fn some_will(alloc: Global, words: &mut Words<'_>) -> Result<Will, Wrong> {
     let (qos, retain) = (words.qos()?, words.bit()?);
-    let topic = name_of(alloc, words)?;
+    let topic = parsed_of(alloc, words)?;
     let message = binary_of(alloc, words)?;
     Ok(Will {
         topic,
@@ -36,7 +37,7 @@ fn will(alloc: Global, words: &mut Words<'_>) -> Result<Option<Will>, Wrong> {
 
 // `login NAME PASSWORD`
 fn some_login(alloc: Global, words: &mut Words<'_>) -> Result<Login, Wrong> {
-    let name = text_of(alloc, words)?;
+    let name = parsed_of(alloc, words)?;
     let password = binary_of(alloc, words)?;
     Ok(Login {
         name,
@@ -54,8 +55,8 @@ fn login(alloc: Global, words: &mut Words<'_>) -> Result<Option<Login>, Wrong> {
 
 /// `CLEAN KEEP-ALIVE ID` and a will and a login, or `-` for none.
 pub(crate) fn connect(alloc: Global, words: &mut Words<'_>) -> Result<BoxedConnect, Wrong> {
-    let (clean_session, keep_alive) = (words.bit()?, words.short()?);
-    let client_id = text_of(alloc, words)?;
+    let (clean_session, keep_alive) = (words.bit()?, words.number()?);
+    let client_id = parsed_of(alloc, words)?;
     let will = will(alloc, words)?;
     let login = login(alloc, words)?;
     let connect = Connect {
@@ -86,7 +87,7 @@ pub(crate) fn delivery(words: &mut Words<'_>, qos: Qos) -> Result<Option<Deliver
 pub(crate) fn message(alloc: Global, words: &mut Words<'_>, qos: Qos) -> Result<Message, Wrong>
     ensures { IfOk result (λ message. message.qos ≡ qos) }
 {
-    let topic = name_of(alloc, words)?;
+    let topic = parsed_of(alloc, words)?;
     let payload = payload_of(alloc, words)?;
     Ok(Message {
         topic,
@@ -115,7 +116,7 @@ fn list<T: Drop>(items: Vec<T>) -> Result<NonEmpty<T>, Wrong> {
 fn request(alloc: Global, word: &str) -> Result<Request, Wrong> {
     let (filter, qos) = word.split_once(':').ok_or(Wrong::Words)?;
     let qos = Words::new(qos).qos()?;
-    let filter = filter_in(alloc, filter)?;
+    let filter = parsed_in(alloc, filter)?;
     Ok(Request { filter, qos })
 }
 
@@ -130,13 +131,13 @@ fn requests(alloc: Global, words: &mut Words<'_>) -> Result<Vec<Request>, Wrong>
 fn filters(alloc: Global, words: &mut Words<'_>) -> Result<Vec<TopicFilter>, Wrong> {
     let mut filters = Vec::new(alloc);
     for word in words.rest() {
-        filters.push(filter_in(alloc, word)?)?;
+        filters.push(parsed_in(alloc, word)?)?;
     }
     Ok(filters)
 }
 
 fn code(word: &str) -> Result<SubAckCode, Wrong> {
-    SubAckCode::from_number(Words::new(word).byte()?).ok_or(Wrong::Words)
+    SubAckCode::from_number(Words::new(word).number()?).ok_or(Wrong::Words)
 }
 
 fn codes(alloc: Global, words: &mut Words<'_>) -> Result<Vec<SubAckCode>, Wrong> {
@@ -174,7 +175,7 @@ fn short_packet(kind: &str, words: &mut Words<'_>) -> Result<Packet, Wrong> {
             session_present: words.bit()?,
         }),
         "refused" => {
-            let code = RefusalCode::from_number(words.byte()?);
+            let code = RefusalCode::from_number(words.number()?);
             Packet::ConnAck(ConnAck::Refused(code.ok_or(Wrong::Words)?))
         }
         "puback" => Packet::PubAck(words.id()?),

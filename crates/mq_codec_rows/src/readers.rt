@@ -1,11 +1,11 @@
 //! Packets read from readers.
 
 use crate::fields::bytes_of;
-use crate::outcomes::Outcome;
+use crate::outcomes::{Given, add, encoded};
 use crate::words::Words;
 use crate::wrong::Wrong;
 use mq_decode::{DecodeError, Limits, ReadError, read_packet, read_sized};
-use mq_packet::{Packet, encode_into};
+use mq_packet::Packet;
 use std::alloc::Global;
 use std::io;
 use std::io::{ErrorKind, Read};
@@ -24,7 +24,7 @@ impl<'a> Slow<'a> {
     fn new(bytes: &'a [u8], at_once: usize, calls: usize) -> Slow<'a> {
         Slow {
             bytes,
-            at_once,
+            at_once: at_once.max(1),
             calls,
             is_interrupted: false,
         }
@@ -49,168 +49,93 @@ impl Read for Slow<'_> {
     }
 }
 
-fn is_at_end(alloc: Global, reader: &mut Slow<'_>, limits: Limits) -> bool {
-    matches!(read_packet(alloc, reader, limits), Ok(None))
+// The outcome of an error, if this number of bytes was left before the packet.
+fn end_of(error: ReadError, left: usize) -> Result<usize, DecodeError> {
+    match error {
+        ReadError::Cut => Ok(left),
+        ReadError::Fault(fault) => Err(DecodeError::Fault(fault)),
+        ReadError::Io(_) | ReadError::Memory => Err(DecodeError::Memory),
+    }
 }
 
-// Appends the encoding of each packet. Returns whether exactly the bytes of each are taken, and the
-// reader then ends twice.
-fn read_each(
+/// Appends the packets of a reader of the bytes. Returns the number of bytes of an incomplete
+/// packet.
+pub(crate) fn take_read(
+    given: &Given<'_>,
+    at_once: usize,
+    out: &mut Vec<Packet>,
+) -> Result<usize, DecodeError> {
+    let mut reader = Slow::new(given.bytes, at_once, usize::MAX);
+    for _ in 0..=given.bytes.len() {
+        let left = reader.bytes.len();
+        match read_packet(given.alloc, &mut reader, given.limits) {
+            Ok(Some(packet)) => add(Ok(packet), out)?,
+            Ok(None) => return Ok(left),
+            Err(error) => return end_of(error, left),
+        }
+    }
+    Err(DecodeError::Memory)
+}
+
+// Whether the bytes end with these ones, behind the encoding of a packet.
+fn is_taken(alloc: Global, packet: Packet, bytes: &[u8], left: &[u8]) -> Result<bool, Wrong> {
+    let mut whole = encoded(alloc, &[packet])?;
+    whole.extend_from_slice(left)?;
+    Ok(whole.as_slice() == bytes)
+}
+
+// Adds the number of bytes left after a packet, or the reader's end. Returns whether there was a
+// packet.
+fn add_read(
     alloc: Global,
-    reader: &mut Slow<'_>,
     limits: Limits,
-    out: &mut Vec<u8>,
+    reader: &mut Slow<'_>,
+    told: &mut String,
 ) -> Result<bool, Wrong> {
-    let all = reader.bytes.len();
-    for _ in 0..=all {
-        match read_packet(alloc, reader, limits) {
-            Ok(Some(packet)) => encode_into(&packet, out)?,
-            Ok(None) => return Ok(is_at_end(alloc, reader, limits)),
-            Err(_) => return Err(Wrong::Bytes),
+    let bytes = reader.bytes;
+    match read_packet(alloc, reader, limits) {
+        Ok(Some(packet)) => {
+            let is_taken = is_taken(alloc, packet, bytes, reader.bytes)?;
+            write!(
+                told,
+                "{}{};",
+                reader.bytes.len(),
+                if is_taken { "" } else { " other" }
+            )?;
+            return Ok(true);
         }
-        if all.checked_sub(out.len()) != Some(reader.bytes.len()) {
-            return Ok(false);
-        }
+        Ok(None) => told.push_str("end;")?,
+        Err(ReadError::Io(error)) => write!(told, "{:?};", error.kind())?,
+        Err(error) => write!(told, "{error};")?,
     }
     Ok(false)
 }
 
-fn reads(alloc: Global, limits: Limits, bytes: &[u8], at_once: usize) -> Result<bool, Wrong> {
-    let mut reader = Slow::new(bytes, at_once, 10_000);
-    let mut out = Vec::new(alloc);
-    let is_exact = read_each(alloc, &mut reader, limits, &mut out)?;
-    Ok(is_exact && out.as_slice() == bytes)
-}
-
-/// Whether readers read the packets of the bytes, and take exactly the bytes of each.
-pub(crate) fn read_all(alloc: Global, limits: Limits, bytes: &[u8]) -> Result<bool, Wrong> {
-    for at_once in [1, 2, 3, 7, 1000] {
-        if !reads(alloc, limits, bytes, at_once)? {
-            return Ok(false);
-        }
-    }
-    Ok(true)
-}
-
-// Whether a reader of these bytes ends inside a packet.
-fn ends_within(alloc: Global, limits: Limits, bytes: &[u8]) -> bool {
-    let mut reader = Slow::new(bytes, 2, 1000);
-    matches!(read_packet(alloc, &mut reader, limits), Err(ReadError::Cut))
-}
-
-/// Whether a reader of each proper prefix ends inside the packet.
-pub(crate) fn end_within(alloc: Global, limits: Limits, bytes: &[u8]) -> bool {
-    for cut in 1..bytes.len() {
-        let (front, _) = bytes.split_at(cut);
-        if !ends_within(alloc, limits, front) {
-            return false;
-        }
-    }
-    true
-}
-
-/// The outcome of a reader's first packet.
-pub(crate) fn first_outcome(alloc: Global, limits: Limits, bytes: &[u8]) -> Outcome {
-    let mut reader = Slow::new(bytes, 1, 1000);
-    let (packets, end) = match read_packet(alloc, &mut reader, limits) {
-        Ok(Some(_)) => (1, Ok(0)),
-        Err(ReadError::Fault(fault)) => (0, Err(DecodeError::Fault(fault))),
-        Ok(None) | Err(_) => (0, Ok(0)),
-    };
-    Outcome { packets, end }
-}
-
-// The size of a packet, which must be encoded as the front of the bytes.
-fn encoded_size(alloc: Global, packet: &Packet, bytes: &[u8]) -> Result<usize, Wrong> {
-    let mut out = Vec::new(alloc);
-    encode_into(packet, &mut out)?;
-    if !bytes.starts_with(out.as_slice()) {
-        return Err(Wrong::Bytes);
-    }
-    Ok(out.len())
-}
-
-/// `first AT-ONCE BYTES`: the size of the packet that a reader of this number of bytes a call reads
-/// and that is encoded as the bytes, and the number of bytes left.
-pub(crate) fn first(
+/// `read AT-ONCE CALLS BYTES`: the number of bytes left after each packet of a reader that returns
+/// at most this number of bytes a call and fails after this number of calls, and its end, twice.
+pub(crate) fn read(
     alloc: Global,
     limits: Limits,
     words: &mut Words<'_>,
     told: &mut String,
 ) -> Result<(), Wrong> {
-    let at_once = words.count()?;
+    let (at_once, calls) = (words.number()?, words.number()?);
     let bytes = bytes_of(alloc, words)?;
-    let mut reader = Slow::new(bytes.as_slice(), at_once, 10_000);
-    match read_packet(alloc, &mut reader, limits) {
-        Ok(Some(packet)) => {
-            let size = encoded_size(alloc, &packet, bytes.as_slice())?;
-            Ok(write!(told, "{size} {}", reader.bytes.len())?)
-        }
-        Ok(None) | Err(_) => Err(Wrong::Bytes),
-    }
-}
-
-// Appends the packets of a reader up to its error, and returns the error.
-fn read_up_to_error(
-    alloc: Global,
-    limits: Limits,
-    reader: &mut Slow<'_>,
-    packets: &mut Vec<Packet>,
-) -> Result<ErrorKind, Wrong> {
-    for _ in 0..4 {
-        match read_packet(alloc, reader, limits) {
-            Ok(Some(packet)) => packets.push(packet)?,
-            Err(ReadError::Io(error)) => return Ok(error.kind()),
-            Ok(None) | Err(_) => return Err(Wrong::Bytes),
+    let mut reader = Slow::new(bytes.as_slice(), at_once, calls);
+    for _ in 0..bytes.len() {
+        if !add_read(alloc, limits, &mut reader, told)? {
+            break;
         }
     }
-    Err(Wrong::Bytes)
-}
-
-/// `failing CALLS BYTES`: the error of a reader that fails after this number of one-byte calls, and
-/// the number of packets before it.
-pub(crate) fn failing(
-    alloc: Global,
-    limits: Limits,
-    words: &mut Words<'_>,
-    told: &mut String,
-) -> Result<(), Wrong> {
-    let calls = words.count()?;
-    let bytes = bytes_of(alloc, words)?;
-    let mut reader = Slow::new(bytes.as_slice(), 1, calls);
-    let mut packets = Vec::new(alloc);
-    let kind = read_up_to_error(alloc, limits, &mut reader, &mut packets)?;
-    write!(told, "{kind:?} {}", packets.len())?;
-    add_if_other(alloc, packets.as_slice(), bytes.as_slice(), told)
-}
-
-// Adds a mark unless the packets are encoded as the front of the bytes.
-fn add_if_other(
-    alloc: Global,
-    packets: &[Packet],
-    bytes: &[u8],
-    told: &mut String,
-) -> Result<(), Wrong> {
-    let mut out = Vec::new(alloc);
-    for packet in packets {
-        encode_into(packet, &mut out)?;
-    }
-    if !bytes.starts_with(out.as_slice()) {
-        told.push_str(", other packets")?;
-    }
+    add_read(alloc, limits, &mut reader, told)?;
     Ok(())
 }
 
 /// `sizes BYTES`: the size of each packet of a reader.
-pub(crate) fn sizes(
-    alloc: Global,
-    limits: Limits,
-    bytes: &[u8],
-    told: &mut String,
-) -> Result<(), Wrong> {
-    let mut reader = bytes;
-    for _ in 0..bytes.len() {
-        match read_sized(alloc, &mut reader, limits) {
+pub(crate) fn sizes(given: &Given<'_>, told: &mut String) -> Result<(), Wrong> {
+    let mut reader = given.bytes;
+    for _ in 0..given.bytes.len() {
+        match read_sized(given.alloc, &mut reader, given.limits) {
             Ok(Some((_, size))) => write!(told, "{size} ")?,
             Ok(None) => return Ok(told.push_str("end")?),
             Err(_) => return Err(Wrong::Bytes),

@@ -3,7 +3,7 @@
 ghost use Rattle.std.specs.Prelude.{◌<◌, ◌≡◌, IfOk};
 ghost use Rattle.mq_topic.specs.Rows.{matched};
 
-use crate::fields::{filter_of, name_of};
+use crate::texts::parsed_of;
 use crate::words::Words;
 use crate::wrong::Wrong;
 use mq_topic::{
@@ -45,7 +45,7 @@ fn find<S: FilterStore>(
     words: &mut Words<'_>,
     told: &mut String,
 ) -> Result<(), Wrong> {
-    let name = name_of(alloc, words)?;
+    let name = parsed_of(alloc, words)?;
     let clients = found(store, &name)?;
     Ok(add_clients(told, clients.as_slice())?)
 }
@@ -59,7 +59,7 @@ fn tell_row<S: FilterStore>(
     told: &mut String,
 ) -> Result<(), Wrong> {
     let client = ClientKey::new(words.number()?);
-    let filter = filter_of(alloc, words)?;
+    let filter = parsed_of(alloc, words)?;
     match kind {
         "set" => Ok(store.set(client, filter, words.qos()?)?),
         "get" => Ok(write!(told, "{:?}", store.get(client, &filter))?),

@@ -3,73 +3,38 @@
 ghost use Rattle.std.specs.Prelude.{◌≡◌, true};
 ghost use Rattle.mq_topic.specs.Topic.{is_topic_filter, is_topic_name};
 
-use crate::fields::{add_unchanged, bytes_of, filter_of, name_of, text_in, text_of};
+use crate::fields::bytes_of;
+use crate::texts::{parsed_of, text_in};
 use crate::words::Words;
 use crate::wrong::Wrong;
 use mq_topic::{Qos, TopicFault, TopicFilter, TopicName, is_topic_filter, is_topic_name, matches};
 use mq_wire::Text;
 use std::alloc::Global;
 
-fn is_copied_name(name: &TopicName, wanted: &str) -> Result<bool, Wrong> {
-    let copy = name.clone()?;
-    Ok(copy.as_str() == wanted)
-}
-
-fn name(alloc: Global, text: &str, told: &mut String) -> Result<(), Wrong> {
-    match TopicName::parse(alloc, text) {
-        Ok(name) => add_unchanged(told, is_copied_name(&name, text)?),
-        Err(fault) => Ok(write!(told, "{fault:?}")?),
-    }
-}
-
-fn is_copied_filter(filter: &TopicFilter, wanted: &str) -> Result<bool, Wrong> {
-    let copy = filter.clone()?;
-    Ok(copy.as_str() == wanted)
-}
-
-fn filter(alloc: Global, text: &str, told: &mut String) -> Result<(), Wrong> {
-    match TopicFilter::parse(alloc, text) {
-        Ok(filter) => add_unchanged(told, is_copied_filter(&filter, text)?),
-        Err(fault) => Ok(write!(told, "{fault:?}")?),
-    }
-}
-
-/// `name TEXT`, `filter TEXT`: whether a topic name or filter is taken unchanged, or its fault.
-/// `is-name TEXT`, `is-filter TEXT`: whether the text is one.
-pub(crate) fn tell(
-    alloc: Global,
-    kind: &str,
-    words: &mut Words<'_>,
-    told: &mut String,
-) -> Result<(), Wrong> {
+/// `valid TEXT`: whether a text is a topic name, and whether it is a filter.
+pub(crate) fn valid(alloc: Global, words: &mut Words<'_>, told: &mut String) -> Result<(), Wrong> {
     let bytes = bytes_of(alloc, words)?;
     let text = text_in(bytes.as_slice())?;
-    match kind {
-        "name" => name(alloc, text, told),
-        "filter" => filter(alloc, text, told),
-        "is-name" => Ok(write!(told, "{}", is_topic_name(text))?),
-        "is-filter" => Ok(write!(told, "{}", is_topic_filter(text))?),
-        _ => Err(Wrong::Words),
-    }
+    Ok(write!(told, "{} {}", is_topic_name(text), is_topic_filter(text))?)
 }
 
-fn add_both(text: Text, told: &mut String) -> Result<(), Wrong>
-    requires name { is_topic_name text ≡ true }
+fn add_both(text: Text, copy: Text, told: &mut String) -> Result<(), Wrong>
+    requires name { is_topic_name copy ≡ true }
     requires filter { is_topic_filter text ≡ true }
 {
-    let copy = text.clone()?;
     let name = TopicName::from_text(copy);
     let filter = TopicFilter::from_text(text);
     Ok(write!(told, "{} {}", name.as_str(), filter.as_str())?)
 }
 
-/// `both TEXT`: a text that passes both tests, as a name and as a filter.
+/// `both TEXT`: a text as a filter, and a copy of its borrowed form as a name.
 pub(crate) fn both(alloc: Global, words: &mut Words<'_>, told: &mut String) -> Result<(), Wrong> {
-    let text = text_of(alloc, words)?;
-    if !is_topic_name(text.as_str()) || !is_topic_filter(text.as_str()) {
+    let text: Text = parsed_of(alloc, words)?;
+    let copy = text.as_ref().to_text(alloc)?;
+    if !is_topic_name(copy.as_str()) || !is_topic_filter(text.as_str()) {
         return Err(Wrong::Bytes);
     }
-    add_both(text, told)
+    add_both(text, copy, told)
 }
 
 /// `matches FILTER NAME`
@@ -78,8 +43,8 @@ pub(crate) fn is_match(
     words: &mut Words<'_>,
     told: &mut String,
 ) -> Result<(), Wrong> {
-    let filter = filter_of(alloc, words)?;
-    let name = name_of(alloc, words)?;
+    let filter = parsed_of(alloc, words)?;
+    let name = parsed_of(alloc, words)?;
     Ok(write!(told, "{}", matches(&filter, &name))?)
 }
 
@@ -95,13 +60,14 @@ static FAULTS: [TopicFault; 7] = [
 
 /// `topic-fault PLACE`: a fault with its code and text.
 pub(crate) fn fault(words: &mut Words<'_>, told: &mut String) -> Result<(), Wrong> {
-    let fault = FAULTS.get(words.count()?).ok_or(Wrong::Words)?;
+    let place: usize = words.number()?;
+    let fault = FAULTS.get(place).ok_or(Wrong::Words)?;
     Ok(write!(told, "{fault:?} {} {fault}", fault.code())?)
 }
 
 /// `qos NUMBER`: the quality of service with it, and its number.
 pub(crate) fn qos(words: &mut Words<'_>, told: &mut String) -> Result<(), Wrong> {
-    match Qos::from_number(words.byte()?) {
+    match Qos::from_number(words.number()?) {
         Some(qos) => Ok(write!(told, "{qos:?} {}", qos.number())?),
         None => Ok(told.push_str("none")?),
     }

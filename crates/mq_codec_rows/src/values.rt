@@ -1,9 +1,12 @@
 //! Values of the layers below packets, limits, and faults.
 
+use crate::texts::parse;
 use crate::words::Words;
 use crate::wrong::Wrong;
 use crate::{encoding, topics, wire};
 use mq_decode::{DecodeError, DecodeFault, FaultKind, ReadError};
+use mq_topic::{TopicFilter, TopicName};
+use mq_wire::Text;
 use std::alloc::{AllocError, Global};
 use std::fmt::Display;
 use std::io;
@@ -34,7 +37,8 @@ static KINDS: [FaultKind; 20] = [
 
 // `kind PLACE`: the kind of a fault and its code.
 fn kind(words: &mut Words<'_>, told: &mut String) -> Result<(), Wrong> {
-    let kind = KINDS.get(words.count()?).ok_or(Wrong::Words)?;
+    let place: usize = words.number()?;
+    let kind = KINDS.get(place).ok_or(Wrong::Words)?;
     Ok(write!(told, "{kind:?} {kind}")?)
 }
 
@@ -80,7 +84,6 @@ fn read_error(words: &mut Words<'_>, told: &mut String) -> Result<(), Wrong> {
 
 fn tell_numbers(act: &str, words: &mut Words<'_>, told: &mut String) -> Result<(), Wrong> {
     match act {
-        "put" => wire::put(words, told),
         "qos" => topics::qos(words, told),
         "greater" => topics::greater(words, told),
         "topic-fault" => topics::fault(words, told),
@@ -98,16 +101,17 @@ fn tell_numbers(act: &str, words: &mut Words<'_>, told: &mut String) -> Result<(
 /// The acts of values.
 pub(crate) fn tell(alloc: Global, words: &mut Words<'_>, told: &mut String) -> Result<(), Wrong> {
     match words.word()? {
+        "put" => wire::put(alloc, words, told),
         "length" => wire::length(alloc, words, told, false),
         "loose" => wire::length(alloc, words, told, true),
         "numbers" => wire::numbers(alloc, words, told),
-        "text" => wire::text(alloc, words, told),
+        "text" => parse::<Text>(alloc, words, told),
+        "name" => parse::<TopicName>(alloc, words, told),
+        "filter" => parse::<TopicFilter>(alloc, words, told),
+        "valid" => topics::valid(alloc, words, told),
         "text-at" => wire::text_in_bytes(alloc, words, told),
         "both" => topics::both(alloc, words, told),
         "matches" => topics::is_match(alloc, words, told),
-        kind @ ("name" | "filter" | "is-name" | "is-filter") => {
-            topics::tell(alloc, kind, words, told)
-        }
         kind => tell_numbers(kind, words, told),
     }
 }

@@ -1,10 +1,12 @@
 //! Packets borrowed from bytes.
 
+use crate::outcomes::Given;
 use crate::wrong::Wrong;
 use mq_decode::{
-    CodesView, ConnectFields, FiltersView, Limits, PacketView, PublishView, RequestView,
-    RequestsView, View, view,
+    CodesView, ConnectFields, FiltersView, PacketView, PublishView, RequestView, RequestsView,
+    View, view,
 };
+use mq_line::Line;
 use mq_packet::{ConnAck, Message};
 use std::alloc::{AllocError, Global};
 
@@ -119,24 +121,22 @@ fn owned(alloc: Global, told: &mut String, packet: &PacketView<'_>) -> Result<()
     Ok(write!(told, "{}", owned.as_slice().len())?)
 }
 
-/// The acts of the view of a packet, which must be all bytes.
-pub(crate) fn tell(
-    alloc: Global,
-    limits: Limits,
-    kind: &str,
-    bytes: &[u8],
-    told: &mut String,
-) -> Result<(), Wrong> {
-    let View::Whole(packet, size) = view(bytes, limits) else {
+// `line BYTES`: a packet as a line.
+fn line(alloc: Global, told: &mut String, packet: &PacketView<'_>) -> Result<(), Wrong> {
+    let packet = packet.owned(alloc)?;
+    Ok(write!(told, "{}", Line(&packet))?)
+}
+
+/// The acts of the view of a packet.
+pub(crate) fn tell(given: &Given<'_>, kind: &str, told: &mut String) -> Result<(), Wrong> {
+    let View::Whole(packet, _) = view(given.bytes, given.limits) else {
         return Err(Wrong::Bytes);
     };
-    if size != bytes.len() {
-        return Err(Wrong::Bytes);
-    }
     match kind {
         "lent" => Ok(add_lent(told, &packet)?),
-        "message" => message(alloc, told, &packet),
-        "owned" => owned(alloc, told, &packet),
+        "message" => message(given.alloc, told, &packet),
+        "owned" => owned(given.alloc, told, &packet),
+        "line" => line(given.alloc, told, &packet),
         _ => Err(Wrong::Words),
     }
 }

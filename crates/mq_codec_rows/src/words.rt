@@ -4,7 +4,7 @@ use crate::wrong::Wrong;
 use mq_decode::Limits;
 use mq_packet::PacketId;
 use mq_topic::Qos;
-use std::str::SplitWhitespace;
+use std::str::{FromStr, SplitWhitespace};
 
 /// The words that remain, with a space between each two.
 #[derive(Clone, Copy)]
@@ -40,39 +40,27 @@ impl<'a> Words<'a> {
         left.split_whitespace()
     }
 
-    /// The number that the next word is.
-    pub(crate) fn number(&mut self) -> Result<u32, Wrong> {
-        self.word()?.parse().ok().ok_or(Wrong::Words)
-    }
-
-    /// A count.
-    pub(crate) fn count(&mut self) -> Result<usize, Wrong> {
-        self.word()?.parse().ok().ok_or(Wrong::Words)
-    }
-
-    /// A number of two bytes.
-    pub(crate) fn short(&mut self) -> Result<u16, Wrong> {
-        self.word()?.parse().ok().ok_or(Wrong::Words)
-    }
-
-    /// A number of one byte.
-    pub(crate) fn byte(&mut self) -> Result<u8, Wrong> {
+    /// The number of the next word.
+    pub(crate) fn number<N: FromStr + Drop>(&mut self) -> Result<N, Wrong>
+    where
+        N::Err: Drop,
+    {
         self.word()?.parse().ok().ok_or(Wrong::Words)
     }
 
     /// A bit, 0 or 1.
     pub(crate) fn bit(&mut self) -> Result<bool, Wrong> {
-        Ok(self.byte()? == 1)
+        Ok(self.word()? == "1")
     }
 
     /// A packet identifier.
     pub(crate) fn id(&mut self) -> Result<PacketId, Wrong> {
-        PacketId::new(self.short()?).ok_or(Wrong::Words)
+        PacketId::new(self.number()?).ok_or(Wrong::Words)
     }
 
     /// A quality of service.
     pub(crate) fn qos(&mut self) -> Result<Qos, Wrong> {
-        Qos::from_number(self.byte()?).ok_or(Wrong::Words)
+        Qos::from_number(self.number()?).ok_or(Wrong::Words)
     }
 
     /// The limits with a greatest remaining length: `64`, or `lenient 64`.

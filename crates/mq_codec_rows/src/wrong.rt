@@ -1,30 +1,21 @@
 //! Why a row reports nothing.
 
-use mq_decode::DecodeError;
 use mq_packet::EncodeError;
-use mq_topic::TopicFault;
-use mq_wire::TextFault;
 use std::alloc::{AllocError, AllocFailed};
+use thiserror::Error;
 
 /// Why a row reports nothing.
-#[derive(Clone, Copy)]
+#[derive(Clone, Copy, Debug, Error)]
 pub(crate) enum Wrong {
-    /// Its words can't be read, or ask for what the list's subject doesn't have.
+    /// Its words can't be read, or ask for something that the list's subject doesn't have.
+    #[error("the line can't be read here")]
     Words,
-    /// Its bytes are not the packet or the topic that it needs.
+    /// Its bytes are not the packet or the text that it needs.
+    #[error("the bytes are other than the line needs")]
     Bytes,
     /// Memory ran out.
+    #[error("out of memory")]
     Memory,
-}
-
-impl Wrong {
-    pub(crate) fn text(self) -> &'static str {
-        match self {
-            Wrong::Words => "the line can't be read here",
-            Wrong::Bytes => "the bytes are other than the line needs",
-            Wrong::Memory => "out of memory",
-        }
-    }
 }
 
 impl From<AllocError> for Wrong {
@@ -39,26 +30,8 @@ impl<T: Drop> From<AllocFailed<T>> for Wrong {
     }
 }
 
-impl From<DecodeError> for Wrong {
-    fn from(_e: DecodeError) -> Wrong {
-        Wrong::Bytes
-    }
-}
-
 impl From<EncodeError> for Wrong {
     fn from(_e: EncodeError) -> Wrong {
-        Wrong::Bytes
-    }
-}
-
-impl From<TopicFault> for Wrong {
-    fn from(_e: TopicFault) -> Wrong {
-        Wrong::Bytes
-    }
-}
-
-impl From<TextFault> for Wrong {
-    fn from(_e: TextFault) -> Wrong {
         Wrong::Bytes
     }
 }
