@@ -67,7 +67,7 @@ impl Given<'_> {
         Ok(true)
     }
 
-    // Whether the first bytes, this many, are an incomplete packet.
+    // Whether the first bytes, this many, are an incomplete packet, also in pieces of two.
     fn holds(&self, count: usize) -> Result<bool, Wrong> {
         let front = Given {
             alloc: self.alloc,
@@ -79,7 +79,7 @@ impl Given<'_> {
             end: Ok(count),
             is_encoded: true,
         };
-        front.reads(&[front.bytes], wanted)
+        Ok(front.reads(&[front.bytes], wanted)? && front.reads_size(2, wanted)?)
     }
 
     // Whether each proper prefix is an incomplete packet.
@@ -148,8 +148,14 @@ impl Given<'_> {
 
     fn tell(&self, kind: &str, told: &mut String) -> Result<(), Wrong> {
         match kind {
-            "whole" => self.whole(told).map(|_| ()),
-            "reads" => self.reads_all(told).map(|_| ()),
+            "whole" => {
+                self.whole(told)?;
+                Ok(())
+            }
+            "reads" => {
+                self.reads_all(told)?;
+                Ok(())
+            }
             "last" => self.last(told),
             "len" => self.len(told),
             "sizes" => readers::sizes(self, told),

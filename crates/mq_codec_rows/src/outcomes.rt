@@ -174,7 +174,10 @@ impl Given<'_> {
                 take_pieces(taking, &mut decoder, pieces, out)
             }
             Way::Views => self.take_views(out),
-            Way::Reader => take_read(self, pieces.first().map_or(1, |piece| piece.len()), out),
+            Way::Reader => match pieces {
+                [first, ..] => take_read(self, first.len(), out),
+                [] => take_read(self, 1, out),
+            },
         }
     }
 
