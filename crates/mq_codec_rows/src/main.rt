@@ -10,7 +10,11 @@
 //! `-` is no byte. `'a/b` is the text behind the quote.
 //!
 //! The outcome `2 held 1` of reading bytes is two packets and one byte of an incomplete packet;
-//! `2 F9 4` is two packets and a fault with this code at byte 4 of the third.
+//! `2 F9 4` is two packets and a fault with this code at byte 4 of the third. `encoded otherwise`
+//! follows if the packets are not encoded as these bytes, `other pieces` if another way of reading
+//! has another outcome.
+//!
+//! The status is 1 if a row differs or can't be read.
 #![tactic(auto)]
 
 mod decoders;
