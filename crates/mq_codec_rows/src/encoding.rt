@@ -148,8 +148,8 @@ fn publish_of(alloc: Global, payload: Payload) -> Result<Packet, Wrong> {
     Ok(Packet::Publish(Publish::new(message, None)))
 }
 
-// Adds the size of a PUBLISH to `a` with this payload. If it is too large, adds whether both encoders
-// refuse it.
+// Adds the size of a PUBLISH to `a` with this payload, or that it is too large and whether both
+// encoders refuse it.
 fn add_size(alloc: Global, bytes: Bytes, told: &mut String) -> Result<(), Wrong> {
     let Some(payload) = Payload::new(bytes) else {
         return Ok(told.push_str("no payload;")?);

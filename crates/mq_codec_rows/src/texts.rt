@@ -8,15 +8,15 @@ use mq_wire::{Text, TextFault};
 use std::alloc::Global;
 use std::fmt::Debug;
 
-/// A kind of text that some texts are.
+/// A kind of text, which has rules of its own.
 pub(crate) trait Kind: Clone + Sized {
-    /// Why a text is none.
+    /// Why a text is refused.
     type Fault: Debug + Drop;
 
-    /// Makes one of a text.
+    /// Checks a text and copies it.
     fn parse(alloc: Global, text: &str) -> Result<Self, Self::Fault>;
 
-    /// Its text.
+    /// Returns the string slice.
     fn text(&self) -> &str;
 }
 
