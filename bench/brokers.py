@@ -1,12 +1,14 @@
 #!/usr/bin/env python3
 """Compares `mqtt broker` with mosquitto in one run.
 
-    bench/brokers.py PROGRAM [--seconds S] [--rows TEXT] [--csv FILE]
+    bench/brokers.py PROGRAM [--seconds S] [--rows TEXT] [--data DIR] [--csv FILE]
 
 PROGRAM is the program mqtt. Each broker runs alone on processor 0, the load on the others. Each row
 is a run of bench/broker_load.c of S seconds (1 by default). --rows measures only rows whose name
-has TEXT. --csv writes the rows to a file. The columns: messages delivered in a second and the share
-of a processor that the broker used, for each broker, and the ratio to mosquitto.
+has TEXT. --csv writes the rows to a file. `mqtt broker` runs with its state in memory, and with a
+journal (`--keep system`, `--keep disk`) in a folder of its own in DIR, by default a temporary one.
+The columns: messages delivered in a second and the share of a processor that the broker used, for
+each broker, and the ratios to mosquitto.
 """
 import argparse
 import os
@@ -32,8 +34,8 @@ set_tcp_nodelay true
 class Broker:
     """A broker that runs on processor 0 until the block ends."""
 
-    def __init__(self, command, port=None):
-        self.command, self.port = command, port
+    def __init__(self, command, port=None, journal=None):
+        self.command, self.port, self.journal = command, port, journal
 
     def __enter__(self):
         output = subprocess.PIPE if self.port is None else subprocess.DEVNULL
@@ -50,6 +52,8 @@ class Broker:
     def __exit__(self, *_):
         self.process.kill()
         self.process.wait()
+        if self.journal:
+            shutil.rmtree(self.journal)
 
     def seconds(self):
         """The processor seconds that the broker used."""
@@ -64,8 +68,9 @@ class Broker:
 
 
 class Bench:
-    def __init__(self, program, folder, seconds):
+    def __init__(self, program, folder, seconds, data):
         self.program, self.folder, self.seconds = os.path.abspath(program), folder, seconds
+        self.data = data or folder
         self.load = os.path.join(folder, "load")
         subprocess.run([os.environ.get("CC", "cc"), "-std=c11", "-O2", "-o", self.load,
                         os.path.join(HERE, "broker_load.c")], check=True)
@@ -74,12 +79,17 @@ class Bench:
         self.mosquitto = shutil.which("mosquitto", path=path)
 
     def names(self):
-        return ["mosquitto", "mqtt broker"] if self.mosquitto else ["mqtt broker"]
+        own = ["mqtt broker", "system", "disk"]
+        return ["mosquitto", *own] if self.mosquitto else own
 
     def broker(self, name):
-        if name == "mqtt broker":
-            return Broker([self.program, "broker", "--quiet", "--listen", "127.0.0.1:0",
-                           "--max-connections", "20000"])
+        if name != "mosquitto":
+            command = [self.program, "broker", "--quiet", "--listen", "127.0.0.1:0",
+                       "--max-connections", "20000"]
+            if name == "mqtt broker":
+                return Broker(command)
+            journal = tempfile.mkdtemp(dir=self.data)
+            return Broker([*command, "--data", journal, "--keep", name], journal=journal)
         port = subprocess.run([self.load, "port"], check=True, capture_output=True, text=True).stdout.strip()
         config = os.path.join(self.folder, "mosquitto.conf")
         with open(config, "w", encoding="ascii") as file:
@@ -123,8 +133,10 @@ def text(value, form="{:,.0f}"):
 
 
 def flows(bench, only, rows):
-    print(f"{'flow':22} " + " ".join(f"{name:>14} {'cpu':>5}" for name in bench.names()) + "   ratio")
-    ahead = three = total = 0
+    own = bench.names()[-3:]
+    print(f"{'flow':22} " + " ".join(f"{name:>12} {'cpu':>4}" for name in bench.names()) + "   ratios")
+    ahead = dict.fromkeys(own, 0)
+    three = total = 0
     for size, size_name in SIZES:
         for publishers, subscribers in FLOWS:
             for qos in (0, 1, 2):
@@ -132,15 +144,19 @@ def flows(bench, only, rows):
                 if only not in name:
                     continue
                 found = [bench.flow(broker, publishers, subscribers, qos, size) for broker in bench.names()]
-                ratio = None
-                if len(found) == 2 and found[0][0] and found[1][0]:
-                    ratio = found[1][0] / found[0][0]
-                    total, ahead, three = total + 1, ahead + (ratio > 1), three + (ratio >= 3)
-                print(f"{name:22} " + " ".join(f"{text(rate):>14} {used:5.2f}" for rate, used in found)
-                      + f"   {text(ratio, '{:.2f}')}", flush=True)
+                ratios = []
+                if len(found) == 4 and all(rate for rate, _ in found):
+                    ratios = [rate / found[0][0] for rate, _ in found[1:]]
+                    total, three = total + 1, three + (ratios[0] >= 3)
+                    for broker, ratio in zip(own, ratios):
+                        ahead[broker] += ratio > 1
+                print(f"{name:22} " + " ".join(f"{text(rate):>12} {used:4.2f}" for rate, used in found)
+                      + "   " + " ".join(f"{ratio:6.2f}" for ratio in ratios), flush=True)
                 rows.append(["flow", name, *(text(rate, "{:.0f}") for rate, _ in found)])
     if total:
-        print(f"mqtt broker is ahead in {ahead} of {total} rows, three times ahead in {three}")
+        print("ahead of mosquitto, of " + str(total) + " rows: "
+              + ", ".join(f"{broker} in {count}" for broker, count in ahead.items())
+              + f"; mqtt broker three times ahead in {three}")
 
 
 def others(bench, only, rows):
@@ -171,11 +187,12 @@ def main():
     parser.add_argument("program", help="the program mqtt")
     parser.add_argument("--seconds", type=float, default=1.0, help="the seconds of each run")
     parser.add_argument("--rows", default="", help="only rows whose name has this text")
+    parser.add_argument("--data", help="a folder for the journals")
     parser.add_argument("--csv", help="a file for the rows")
     words = parser.parse_args()
     rows = []
     with tempfile.TemporaryDirectory() as folder:
-        bench = Bench(words.program, folder, words.seconds)
+        bench = Bench(words.program, folder, words.seconds, words.data)
         if not bench.mosquitto:
             print("mosquitto is not installed, so there is nothing to compare with (Debian: apt-get install mosquitto)")
         flows(bench, words.rows, rows)

@@ -1,9 +1,8 @@
 //! A broker over sockets of the system: one event loop serves all connections, until it is stopped
 //! (4.2).
 //!
-//! A call that can fail for lack of memory says so in its return type; other calls never allocate
-//! unless stated otherwise. The crate is the edge of `mq_loop`: it accepts connections, waits until
-//! some are ready, and writes the log.
+//! Unless stated otherwise, a call that allocates returns a `Result`. The crate is the edge of
+//! `mq_loop`: it accepts connections, waits until some are ready, and writes the log.
 #![tactic(auto)]
 
 mod acceptor;

@@ -18,8 +18,8 @@ use Rattle.mq_end.specs.Requests.{Requests, Ticks}
 use Rattle.mq_client.specs.declared.error.ClientError.{ClientError}
 use Rattle.mq_client.specs.Keeping.{Holds, saved_of}
 
--- What is known of the connection itself. `closed` is false if the stream is known to be open.
--- `quiet` counts the last reads, which brought nothing: after `limit` of them in a row the
+-- The state of the connection itself. `closed` is false if the stream is known to be open.
+-- `quiet` counts the reads without a byte since the last one with bytes: after `limit` of them the
 -- connection counts as lost.
 pub record Line : Type 0 where
   pub closed : Bool

@@ -19,7 +19,7 @@ pub(crate) const OWNER_ONLY: u32 = 0o600;
 
 /// Named files, as far as a session needs them.
 pub trait Disk {
-    /// For each name, what a crash may have left of the file so far, in order, if this is known.
+    /// For each name, the contents that a crash may have left so far, in order, if they are known.
     ghost history: { Self → Option (List ℕ → List Entry) } = { λ _. None };
 
     /// Reads a whole file. Returns `None` if there is no file of this name.

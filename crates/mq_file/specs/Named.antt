@@ -49,7 +49,7 @@ Synced old new = (name : List ℕ) → new name ≡ present (old name) ∷ []
 abbrev pub IsReplaced : List ℕ → List ℕ → Outcomes → Outcomes → Type 0
 IsReplaced name bytes old new = new name ≡ Some bytes ∷ []
 
--- a crash leaves what it could leave before under the name, or these bytes
+-- the name has one of its earlier outcomes of a crash, or these bytes
 abbrev pub MayBeReplaced : List ℕ → List ℕ → Outcomes → Outcomes → Type 0
 MayBeReplaced name bytes old new =
     (new name ≡ old name) ⊎ (new name ≡ old name ++ Some bytes ∷ [])

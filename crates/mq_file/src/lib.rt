@@ -3,7 +3,7 @@
 //! Contracts see a file by the record of its calls, from which the content and the outcomes of a
 //! crash follow. Whether a real file does what the calls report is not proved.
 //!
-//! A call that can fail for lack of memory says so in its return type; other calls never allocate.
+//! Unless stated otherwise, a call that allocates returns a `Result`.
 #![tactic(auto)]
 
 mod error;

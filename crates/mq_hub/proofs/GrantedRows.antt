@@ -186,7 +186,7 @@ pub err_so : {A X : Type 0} {E : Type 0} (r : Result ⊤ E) → OnErr r A → (A
 err_so (Ok x) a f = tt
 err_so (Err e) a f = f a
 
--- ---- the broker after rows are set and the end did what it was asked
+-- ---- the broker after rows are set and the end served the call
 
 module _ (config : HubConfig) (next key : ℕ) (t u : HubTables) (kept : HubInvariant config next t) (k : Conn) (on : up_on key t.connections.connections ≡ Some k) (call : Call)
     (rows : List Row) (owned : AllByRecursion (λ r. HasSession t.sessions.list r.0.0) rows) (a : Answers key call rows t u) where

@@ -67,7 +67,7 @@ module _ (config : HubConfig) (clock next key : ℕ) (t : HubTables) (kept : Hub
         subst (λ (xs : List BrokerSession). Refines (does key (server_gets p)) old did (hub_of config clock next (with_list xs t)) did) is
         (replied_goes config next key at.session e t at.there kept k on clock (server_gets p) same did)
 
-    -- the broker does what is requested if it has room for the copies
+    -- the request has its effect if there is room for the copies
     pub asked_goes : (conn : Conn) (fits : Bool) (new : HubState) (did says : List Act) → have_room (due_by key old h) old ≡ true → Refines (answers conn key h) old did new says
         → Refines (on_passed_packet conn key p fits) old did new says
     asked_goes conn fits new did says room goes =

@@ -4,8 +4,8 @@
 //! `Collect` to take its pending output, `Ended` when it is over, and `Tick` with the current time
 //! in milliseconds at least at each [`HubOver::next_deadline`].
 //!
-//! A call that can fail for lack of memory says so in its return type; other calls never allocate
-//! unless stated otherwise. On `Err` the receiver is unchanged unless stated otherwise.
+//! Unless stated otherwise, a call that allocates returns a `Result`, and leaves the receiver
+//! unchanged on `Err`.
 #![tactic(auto)]
 
 mod accounts;

@@ -21,7 +21,7 @@ step event reply = Some record { event = event; reply = reply }
 abbrev pub commit : Call
 commit = None
 
--- the calls so far, if they are known, and then further ones
+-- calls, if they are known, followed by others
 abbrev pub with_calls : Option (List Call) → List Call → Option (List Call)
 with_calls None more = None
 with_calls (Some calls) more = Some (calls ++ more)

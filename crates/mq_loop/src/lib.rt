@@ -10,11 +10,10 @@
 //! Below the loop are [`Served`] (a broker and its connections, whose bytes it accounts for) and
 //! notes about the acts of the broker, by which a round misses no output and no end.
 //!
-//! A call that can fail for lack of memory says so in its return type; other calls never allocate
-//! unless stated otherwise. On `Err` the receiver is unchanged unless stated otherwise. The
-//! definitions of the contracts are in `specs/`: `Brokers` (events), `Sockets` (reads and writes),
-//! `Accounts` (the bytes of a connection in a broker's steps), `Places` (sets of connections) and
-//! `Rounds` (the end of a round).
+//! Unless stated otherwise, a call that allocates returns a `Result`, and leaves the receiver
+//! unchanged on `Err`. The definitions of the contracts are in `specs/`: `Brokers` (events),
+//! `Sockets` (reads and writes), `Accounts` (the bytes of a connection in a broker's steps),
+//! `Places` (sets of connections) and `Rounds` (the end of a round).
 #![tactic(auto)]
 
 mod broker;

@@ -4,8 +4,8 @@
 //! so on, and begins the next file. The result is a `Durable` of `mq_durable`: an event must be
 //! committed before its output is sent.
 //!
-//! A call that can fail for lack of memory says so in its return type; other calls never allocate.
-//! On `Err` the receiver is unchanged unless stated otherwise.
+//! Unless stated otherwise, a call that allocates returns a `Result`, and leaves the receiver
+//! unchanged on `Err`.
 #![tactic(auto)]
 
 mod configuration;

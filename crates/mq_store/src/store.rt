@@ -33,8 +33,8 @@ fn file_name(alloc: Global, path: &str, nth: u64) -> Result<String, AllocError> 
     format!(in alloc; "{path}/journal.{nth}")
 }
 
-// Returns what the folder has about its journal: the digest of the configuration, and the end of
-// each file. Empty if it has nothing.
+// Returns the content of the file `configuration`: the digest of the configuration, and the end of
+// each file of the journal. Empty if there is no such file.
 fn read_owner<R: Files<File = File>>(
     rt: &R,
     alloc: Global,
@@ -47,7 +47,7 @@ fn read_owner<R: Files<File = File>>(
     }
 }
 
-// Replaces what the folder has about its journal.
+// Replaces the content of the file `configuration`.
 fn set_owner<R: Files<File = File>>(
     rt: &R,
     alloc: Global,
@@ -61,8 +61,8 @@ fn set_owner<R: Files<File = File>>(
     Ok(())
 }
 
-// Checks that the folder belongs to a configuration, and returns what it has about its journal. A
-// folder without a journal belongs to the configuration from now on.
+// Checks that the folder belongs to a configuration, and returns the content of its file
+// `configuration`. A folder without a journal belongs to the configuration afterwards.
 fn claim<R: Files<File = File>>(
     rt: &R,
     alloc: Global,

@@ -59,15 +59,15 @@ pub record Reports (r : Reply) (o : PacketOutcome) (old new : EndState) : Type 0
   pub happening : option_to_list o.happening ≡ r.happenings
   pub close : o.closed ≡ r.close
 
--- An end did what it was asked, or memory ran out and it is unchanged. If the answer fits its room,
--- memory runs out only if an identifier is stored. The room for later messages stays.
+-- An end served a call, or memory ran out and it is unchanged. If the answer fits its room, memory
+-- runs out only if an identifier is stored. The room for later messages stays.
 pub record Serves (call : Call) (answer : Result PacketOutcome AllocError) (old new : EndState) : Type 0 where
   pub ok : IfOk answer (λ o. Reports (reply_of call old.end) o old new)
   pub err : OnErr answer (new ≡ old)
   pub within : is_storing call ≡ false → FitsRoom (reply_of call old.end).out old → IsOk answer
   pub kept : (ms : List Message) (more : ℕ) → HasRoom ms (packets_size (reply_of call old.end).out + more) old → HasRoom ms more new
 
--- the session of a key exists, its end is connected, and it may do what is asked
+-- the session of a key exists, its end is connected, and the call is allowed
 pub record CanServe (key : ℕ) (call : Call) (ts : List BrokerSession) : Type 0 where
   pub session : BrokerSession
   pub there : session_at key ts ≡ Some session

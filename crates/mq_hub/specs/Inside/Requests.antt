@@ -27,8 +27,8 @@ pub record AreAlike (old new : HubTables) : Type 0 where
   pub sessions : AreSameButRoom old.sessions.list new.sessions.list
   pub connections : new.connections ≡ old.connections
 
--- The tables with these rows, after room was made in the sessions and one session's end did what it
--- was asked.
+-- The tables with these rows, after room was made in the sessions and one session's end served a
+-- call.
 pub record Answers (key : ℕ) (call : Call) (set : List Row) (old new : HubTables) : Type 0 where
   pub ready : List BrokerSession
   pub same : AreSameButRoom old.sessions.list ready
