@@ -16,7 +16,7 @@ use Rattle.mq_pubsub.proofs.Shown.{Shows-append, Shows-none}
 use Rattle.mq_pubsub_runs.specs.declared.stop.Stop.{Stop}
 use Rattle.mq_pubsub_runs.specs.declared.stop.Stop.TheVariants.{Connection, Application}
 use Rattle.mq_pubsub_runs.specs.Stops.{IsBroken, IsConnection, IsErr, IsOk}
-use Rattle.mq_pubsub_runs.specs.Posting.{AllPosted, Fills, Finishes, PartPosted, Posted, Progress, ProgressUntil, PublishEnds, Publishes, Sent, StartsWith, is_q0, unstored}
+use Rattle.mq_pubsub_runs.specs.Posting.{AllPosted, Fills, Finishes, PartPosted, Posted, Progress, ProgressUntil, PublishEnds, Publishes, StartsWith, is_q0, unstored}
 use Rattle.mq_pubsub_runs.specs.Posting.Posted.{Begins, Opens, Sends, Breaks, Hears, Continues}
 
 -- ---- what was published
@@ -150,24 +150,8 @@ fills_taken a next later unwritten given taken fresh shown parts = record {
   none = λ e. refl;
 }
 
--- and published
-pub fills_published : (a b : Moment) (next later : Option Message) (unwritten pending : ℕ) (given : Option (List Message)) → Publishes a b next later unwritten pending
-    → Fills a b next later unwritten pending given given
-fills_published a b next later unwritten pending given p = record {
-  messages = p.messages;
-  fresh = [];
-  published = p.published;
-  shown = Shows-none given;
-  parts = append-nil (option_to_list next) ∙ p.parts;
-  none_before = p.none_before;
-  none = p.none;
-}
-
 pub publishes_none : (a : Moment) (next : Option Message) (unwritten : ℕ) → Publishes a a next next unwritten unwritten
 publishes_none a next unwritten = record { messages = []; published = went_none a; parts = refl; none_before = λ e. e; none = λ e. refl }
-
-pub publishes_same : (a b : Moment) (next : Option Message) (unwritten : ℕ) → Went a b [] [] [] → Publishes a b next next unwritten unwritten
-publishes_same a b next unwritten went = record { messages = []; published = went; parts = refl; none_before = λ e. e; none = λ e. refl }
 
 pub publishes_one : (a b : Moment) (message : Message) (unwritten pending : ℕ) → Went a b (Publication message ∷ []) [] [] → (pending ≡ 0 → unwritten ≡ 0)
     → (pending ≡ 0 → unstored (message ∷ []) ≡ []) → Publishes a b (Some message) None unwritten pending
@@ -248,13 +232,6 @@ all_posted a b lost given taken f =
       idle = f.idle;
       leaves = f.leaves;
     }
-
-pub part_of_finish : (a b : Moment) (next : Option Message) (lost : ℕ) (given taken : Option (List Message)) → Finishes a b next lost given taken → PartPosted a b
-part_of_finish a b next lost given taken f = record {
-  messages = f.progress.messages ++ [];
-  unwritten = f.progress.unwritten ++ [];
-  posted = Posted-append a f.last f.progress.messages f.progress.unwritten f.progress.posted b [] [] f.whole;
-}
 
 pub part_of_progress : (a b : Moment) (next later : Option Message) (lost missing : ℕ) (given taken : Option (List Message)) → Progress a b next later lost missing given taken → PartPosted a b
 part_of_progress a b next later lost missing given taken p = record { messages = p.messages; unwritten = p.unwritten; posted = p.posted }

@@ -1,11 +1,10 @@
 -- The work of a subscriber, part after part.
-use Rattle.std.proofs.Common.{◌≡◌, ◌⊎◌, inl, inr, ℕ, Bool, true, false, List, [], ◌∷◌, ◌++◌, Option, None, Result, Ok, Err, IfErr, OnErr, OnOk, refl, sym, ap, subst, ◌∙◌, append-nil, append_assoc}
+use Rattle.std.proofs.Common.{◌≡◌, inl, inr, ℕ, Bool, true, false, List, [], ◌∷◌, ◌++◌, Option, Result, Ok, Err, IfErr, OnErr, OnOk, refl, sym, ap, subst, ◌∙◌, append-nil}
 use Rattle.std.specs.Bool.{⊤}
 use Rattle.std.specs.Io.KnownBytes.{Keeps}
 use Rattle.mq_packet.specs.declared.message.Message.{Message}
 use Rattle.mq_end.specs.declared.happening.Happening.{Happening}
 use Rattle.mq_end.specs.declared.reason.CloseReason.{CloseReason}
-use Rattle.mq_end.specs.End.{blank_end}
 use Rattle.mq_end.specs.Publishing.{ClientState}
 use Rattle.mq_client.specs.Course.{Ask, Moment, Opening, Went, WentFirst}
 use Rattle.mq_client.proofs.Courses.{went_still, went_then}
@@ -27,10 +26,6 @@ use Rattle.mq_pubsub_runs.proofs.Postings.{resting}
 -- all requests were made, one part after another
 pub first_parts : (a b c : Moment) (ms ns : List Ask) → Went a b ms [] [] → Went b c ns [] [] → Went a c (ms ++ ns) [] []
 first_parts a b c ms ns p q = went_then a b c ms ns [] [] [] [] p q
-
--- no request was made
-pub first_none : (a b : Moment) (all : List Ask) → Went a b [] [] [] → WentFirst a b all [] []
-first_none a b all went = record { asks = []; rest = all; parts = refl; went = went }
 
 -- the first part was made
 pub first_part : (a b c : Moment) (ms ns : List Ask) → Went a b ms [] [] → Went b c [] [] [] → WentFirst a c (ms ++ ns) [] []

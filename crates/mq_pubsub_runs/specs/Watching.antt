@@ -1,5 +1,5 @@
 -- What a subscriber does, over one connection after another.
-use Rattle.std.specs.Prelude.{◌≡◌, ◌⊎◌, ⊤, ℕ, Bool, true, false, not, List, [], ◌∷◌, ◌++◌, Option, Some, None, Result, Ok, Err, is_some, option_map, option_to_list}
+use Rattle.std.specs.Prelude.{◌≡◌, ◌⊎◌, ⊤, true, false, not, List, [], ◌∷◌, ◌++◌, Option, None, Result, Ok, Err, is_some, option_map, option_to_list}
 use Rattle.std.specs.Io.KnownBytes.{Keeps}
 use Rattle.mq_packet.specs.declared.message.Message.{Message}
 use Rattle.mq_end.specs.declared.happening.Happening.{Happening}
