@@ -1,5 +1,5 @@
 -- Payloads that are taken round by round.
-use Rattle.std.proofs.Common.{◌≡◌, ◌∙◌, ◌⊎◌, inl, inr, absurd, arith, ℕ, ◌+◌, ◌<◌, ◌≤◌, zero, suc, List, [], ◌∷◌, ◌++◌, length, take, get_or, ap, sym, refl, append_assoc, append-nil}
+use Rattle.std.proofs.Common.{◌≡◌, ◌∙◌, ◌≢◌, arith, ℕ, ◌+◌, ◌<◌, ◌≤◌, zero, suc, List, [], ◌∷◌, ◌++◌, length, take, get_or, ap, sym, refl, append_assoc, append-nil}
 use native.Mathlib.Numerals.{unary_clauses}
 use Rattle.std.proofs.lemmas.List.{drop_all, take_all, take_more}
 use Rattle.mq_pubsub_programs.specs.Feeding.{rounds_of}
@@ -27,22 +27,18 @@ no_payload payloads zero none = refl
 no_payload payloads (suc rounds) none = ap (λ (front : List (List ℕ)). front ++ payloads) (no_payload payloads rounds none) ∙ none
 
 -- all rounds are complete
-pub rounds_over : (payloads : List (List ℕ)) (repeat rounds index : ℕ) → rounds ≤ repeat → (index ≡ 0) ⊎ ((index < length payloads) × (rounds < repeat)) → repeat ≤ rounds
+pub rounds_over : (payloads : List (List ℕ)) (repeat rounds index : ℕ) → rounds ≤ repeat → (index ≢ 0 → rounds < repeat) → repeat ≤ rounds
     → rounds_of payloads rounds ++ take index payloads ≡ rounds_of payloads repeat
-rounds_over payloads repeat rounds index few within over =
-    let same : rounds ≡ repeat = omega (arith, few, over) in
-    elim within [
-      | inl e ↦ ap (λ n. rounds_of payloads rounds ++ take n payloads) e ∙ (append-nil (rounds_of payloads rounds) ∙ ap (rounds_of payloads) same)
-      | inr p ↦ absurd (omega (arith, p.1, over))
-    ]
+rounds_over payloads repeat rounds zero few running over =
+    let same : rounds ≡ repeat = omega (arith, few, over) in append-nil (rounds_of payloads rounds) ∙ ap (rounds_of payloads) same
+rounds_over payloads repeat rounds (suc index) few running over =
+    let more : rounds < repeat = running (λ e. omega (arith, e)) in absurd (omega (arith, more, over))
 
 -- there is no payload
-pub nothing_left : (payloads : List (List ℕ)) (repeat rounds index : ℕ) → (index ≡ 0) ⊎ ((index < length payloads) × (rounds < repeat)) → length payloads ≤ index
+pub nothing_left : (payloads : List (List ℕ)) (repeat rounds index : ℕ) → (index ≢ 0 → index < length payloads) → length payloads ≤ index
     → rounds_of payloads rounds ++ take index payloads ≡ rounds_of payloads repeat
-nothing_left payloads repeat rounds index within none = elim within [
-  | inl e ↦
-      let short : length payloads ≤ 0 = omega (arith, none, e) in
-      let empty : payloads ≡ [] = drop_all 0 payloads short in
-      ap (λ n. rounds_of payloads rounds ++ take n payloads) e ∙ (append-nil (rounds_of payloads rounds) ∙ (no_payload payloads rounds empty ∙ sym (no_payload payloads repeat empty)))
-  | inr p ↦ absurd (omega (arith, p.0, none))
-]
+nothing_left payloads repeat rounds zero placed none =
+    let empty : payloads ≡ [] = drop_all 0 payloads none in
+    append-nil (rounds_of payloads rounds) ∙ (no_payload payloads rounds empty ∙ sym (no_payload payloads repeat empty))
+nothing_left payloads repeat rounds (suc index) placed none =
+    let within : suc index < length payloads = placed (λ e. omega (arith, e)) in absurd (omega (arith, within, none))

@@ -1,7 +1,6 @@
 //! Payloads that are known before the first one is published.
 
-ghost use Rattle.std.specs.Prelude.{◌≡◌, ◌⊎◌, ◌++◌, ◌<◌, ◌≤◌, [], ◌∷◌, get_or, vec_len, IfOk, OnErr};
-ghost use Rattle.mq_pubsub_programs.specs.Feeding.{EndsWith, payloads_in, taken_payloads};
+ghost use Rattle.std.specs.Prelude.{◌≡◌, ◌≢◌, ◌++◌, ◌<◌, ◌≤◌, [], ◌∷◌, get_or, vec_len, IfOk, OnErr};
 
 use crate::supply::InputLine;
 use mq_packet::Payload;
@@ -19,10 +18,13 @@ pub(crate) struct Known {
     /// The number of payloads that were taken since.
     pub(crate) index: usize,
     ghost few_rounds: { rounds ≤ repeat },
-    ghost within: { (index ≡ 0) ⊎ ((index < vec_len payloads) × (rounds < repeat)) },
+    ghost placed: { index ≢ 0 → index < vec_len payloads },
+    ghost running: { index ≢ 0 → rounds < repeat },
 }
 
 impl Known {
+    ghost use Rattle.mq_pubsub_programs.specs.Feeding.{EndsWith, payloads_in, taken_payloads};
+
     /// Takes these payloads, in order, this many times.
     pub(crate) fn new(payloads: Vec<Payload>, repeat: u64) -> Known
         ensures payloads { result.payloads ≡ payloads }
