@@ -881,9 +881,8 @@ REFUSED = [
 # `error: `, and the tip.
 CLIENT_TIP = "'-h' prints help and has no value; the broker is always at 127.0.0.1"
 ADVISED = [
-    ("sub", "<COMMAND>", "unrecognized subcommand 'sub'", "use 'collect'"),
     ("subscribe -t a", "<COMMAND>", "unrecognized subcommand 'subscribe'", "use 'collect'"),
-    ("pub -t a -m x", "<COMMAND>", "unrecognized subcommand 'pub'", "use 'publish'"),
+    ("pubs -t a -m x", "<COMMAND>", "unrecognized subcommand 'pubs'", "a similar subcommand exists: 'publish'"),
     ("publish -h localhost", "publish", "unexpected argument 'localhost' found", CLIENT_TIP),
     ("collect --port=1 -hlocalhost", "collect", "unexpected argument '-hlocalhost' found", CLIENT_TIP),
     ("show -h c000", "show", "unexpected argument 'c000' found", "'-h' prints help and has no value"),

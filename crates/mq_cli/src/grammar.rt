@@ -21,7 +21,9 @@ Status:
   1  a fault, an incomplete packet, `no`, a failed or closed connection, or an unsaved session
   2  arguments, digits, a file, a filter, a name or a line of a file that can't be read
   3  out of memory
-  4  the output failed or was closed";
+  4  the output failed or was closed
+
+`mqtt pub` and `mqtt sub` have the options of mosquitto_pub and mosquitto_sub.";
 
 /// The end of the help of `match`.
 const MATCH_END: &str = "Codes of an invalid argument:
