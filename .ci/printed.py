@@ -930,6 +930,8 @@ Status:
   2  arguments, digits, a file, a filter, a name or a line of a file that can't be read
   3  out of memory
   4  the output failed or was closed
+
+`mqtt pub` and `mqtt sub` have the options of mosquitto_pub and mosquitto_sub.
 """
 HELPS = [
     ("show --help", SHOW_HELP),
