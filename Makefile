@@ -98,6 +98,9 @@ install: $(if $(filter 1,$(UNPROVED)),bin/mqtt)
 	@$(is_proved) || test '$(UNPROVED)' = 1 || { echo 'make install installs only a proved program, and there is none in bin/. Run `make prove` first, or set UNPROVED=1 to install the program without a proof.' >&2; exit 1; }
 	mkdir -p $(DESTDIR)$(PREFIX)/bin
 	install -m 755 bin/mqtt $(DESTDIR)$(PREFIX)/bin/mqtt
+	mkdir -p $(DESTDIR)$(PREFIX)/share/man/man1 $(DESTDIR)$(PREFIX)/share/bash-completion/completions
+	bin/mqtt manual >$(DESTDIR)$(PREFIX)/share/man/man1/mqtt.1
+	bin/mqtt completion bash >$(DESTDIR)$(PREFIX)/share/bash-completion/completions/mqtt
 	if test -f lib/libposkvari.a; then $(MAKE) install-lib; fi
 
 # Installs the library for C and its header.

@@ -3,14 +3,16 @@
 
 Both get the same options at the same broker, which is mosquitto's. What they print, what they
 publish and their statuses have to be the same, byte for byte. Each check prints a line. If
-mosquitto is not installed, it says so and ends with status 0. The program is the first argument,
-otherwise bin/mqtt. Further arguments choose the checks whose names contain them. Everything is on
-127.0.0.1, at free ports, and files are in a folder that is removed."""
+mosquitto is not installed, only the checks run that use `mqtt broker`, or no broker; .ci/program
+runs these too, with fewer rounds. The program is the first argument, otherwise bin/mqtt. Further
+arguments choose the checks whose names contain them. Everything is on 127.0.0.1, at free ports, and
+files are in a folder that is removed."""
 
 import contextlib
 import os
 import random
 import re
+import shlex
 import shutil
 import signal
 import socket
@@ -27,10 +29,14 @@ import hard_use
 ROOT = os.path.dirname(os.path.dirname(os.path.abspath(__file__)))
 PROGRAM = os.path.abspath(sys.argv[1]) if len(sys.argv) > 1 else f"{ROOT}/bin/mqtt"
 CHOSEN = sys.argv[2:]
+# The rounds of the check that kills both commands.
+ROUNDS = 20
 PLACES = f"{os.environ.get('PATH', '')}:/usr/sbin:/usr/local/sbin"
 NEEDED = {it: shutil.which(it, path=PLACES) for it in ("mosquitto", "mosquitto_passwd", "mosquitto_pub", "mosquitto_sub")}
 OURS = {"pub": [PROGRAM, "pub"], "sub": [PROGRAM, "sub"]}
 THEIRS = {"pub": [NEEDED["mosquitto_pub"]], "sub": [NEEDED["mosquitto_sub"]]}
+# The names of the checks that need no program of mosquitto.
+ALONE = set()
 # How long anything may take, in seconds.
 LIMIT = 60
 EVERY = bytes(range(256))
@@ -40,9 +46,10 @@ checks = []
 faults = []
 
 
-def check(name):
+def check(name, alone=False):
     def known(function):
         checks.append((name, function))
+        ALONE.update([name] if alone else [])
         return function
 
     return known
@@ -125,6 +132,18 @@ class Room:
                 return process
             time.sleep(0.05)
         raise AssertionError("mosquitto does not start")
+
+    def own_broker(self):
+        """Our broker, at a free port."""
+        words = [PROGRAM, "broker", "--listen", "127.0.0.1:0", "--capacity", "65535"]
+        process = self.start(words)
+        for _ in range(LIMIT * 20):
+            found = re.match(rb"listening 127.0.0.1:(\d+)\n", process.read())
+            if found:
+                self.port = int(found[1])
+                return process
+            time.sleep(0.05)
+        raise AssertionError("mqtt broker does not start")
 
     def start(self, words, given=None, env=None):
         running = Running(self.folder, [str(it) for it in words], given, env)
@@ -633,21 +652,305 @@ def _(room):
             proxy.close()
 
 
+def sent_packets(room, whose, kind, options):
+    """The first two packets that a command sends to a server that accepts its CONNECT."""
+    with socket.create_server(("127.0.0.1", 0)) as listener:
+        listener.settimeout(LIMIT)
+        port = listener.getsockname()[1]
+        words = [str(it).replace("PORT", str(port)) for it in options]
+        running = room.start([*whose[kind], "-p", port, *words])
+        stream = listener.accept()[0]
+        with stream:
+            stream.settimeout(LIMIT)
+            found = [hard_use.read_packet(stream)]
+            stream.sendall(b"\x20\2\0\0")
+            found.append(hard_use.read_packet(stream))
+        running.stop()
+    return found
+
+
+@check("packets: CONNECT and the first one after it")
+def _(room):
+    will = ["--will-topic", "w"]
+    for options in (
+        ["-i", "me"],
+        ["-i", "me", "-k", 10],
+        ["-i", "me", "-k", 65535, "-c"],
+        ["-i", "me", "-u", "joe"],
+        ["-i", "me", "-u", "joe", "-P", "x y"],
+        ["-i", "me", "-u", "é", "-P", ""],
+        ["-i", "me", *will],
+        ["-i", "me", *will, "--will-payload", "gone", "--will-qos", 1],
+        ["-i", "me", "-c", *will, "--will-payload", "-x", "--will-qos", 2, "--will-retain", "-u", "joe", "-P", "x"],
+        ["-i", "23 characters and more of them"],
+        ["-h", "127.0.0.1", "-i", "me"],
+        ["-d", "-i", "me"],
+        ["--quiet", "-i", "me"],
+    ):
+        for kind, more in (("pub", ["-t", "a", "-m", "x"]), ("sub", ["-t", "a"])):
+            found = [sent_packets(room, it, kind, [*options, *more]) for it in (OURS, THEIRS)]
+            same(f"packets of {kind} {options}", *found)
+    for kind, options in (
+        *(("pub", ["-t", "a/b", "-m", "x", "-q", qos, *more]) for qos in range(3) for more in ([], ["-r"])),
+        ("pub", ["-L", "mqtt://joe:x@127.0.0.1:PORT/a/b", "-m", "x"]),
+        ("pub", ["-L", "mqtt://127.0.0.1:PORT/a", "-n", "-r"]),
+        ("sub", ["-L", "mqtt://joe:x@127.0.0.1:PORT/a/%23", "-q", 1]),
+        ("sub", ["-L", "mqtt://127.0.0.1:PORT/a/b"]),
+        ("sub", ["-t", "a", "-t", "b/#", "-t", "+/c", "-q", 2]),
+        ("sub", ["-t", "a", "-T", "b", "-C", 3, "-R", "-v", "-N", "-q", 1]),
+        ("sub", ["-t", "$SYS/#", "-t", "é"]),
+    ):
+        # Ours continues with its session after a loss, unless that is switched off.
+        also = ["--retry", "never"] if kind == "pub" else []
+        found = [sent_packets(room, it, kind, ["-i", "me", *options, *more]) for it, more in ((OURS, also), (THEIRS, []))]
+        same(f"packets of {kind} {options}", *found)
+
+
+@check("sub: unsubscribe")
+def _(room):
+    room.broker()
+    found = []
+    for number, whose in enumerate((OURS, THEIRS)):
+        options = ["-i", f"kept{number}", "-c", "-q", 1, "-t", "k", "-t", "l"]
+        same("subscribe", room.at(whose, "sub", [*options, "-E"]).ended()[0], 0)
+        running = room.at(whose, "sub", ["-i", f"kept{number}", "-c", "-q", 1, "-t", "m", "-U", "k", "-C", 2, "-v"])
+        room.until_logged(f"Sending UNSUBACK to kept{number}")
+        peer = Peer(room.port, b"publisher", None)
+        for topic in (b"k", b"l", b"m"):
+            peer.publish(topic, topic, 1)
+        peer.close()
+        found.append(running.ended()[:2])
+    same("sub -U", *found)
+    same("sub -U", found[0], (0, b"l l\nm m\n"))
+
+
+def output_of(words):
+    """The output of a program that ends with status 0 and prints no errors."""
+    ran = subprocess.run(words, capture_output=True, text=True, timeout=LIMIT, env=environment())
+    same(f"status and errors of {words}", (ran.returncode, ran.stderr), (0, ""))
+    return ran.stdout
+
+
+def completed(script, *words):
+    """What bash completes for the last of these words."""
+    quoted = " ".join(shlex.quote(it) for it in ("mqtt", *words))
+    line = f"source {script}; COMP_WORDS=({quoted}); COMP_CWORD={len(words)}; _mqtt; printf '%s\\n' \"${{COMPREPLY[@]}}\""
+    return output_of(["bash", "--norc", "-uc", line]).split()
+
+
+@check("completion and manual: each command and option of the help", alone=True)
+def _(room):
+    script = room.file("completion", output_of([PROGRAM, "completion", "bash"]).encode())
+    same("how bash completes", output_of(["bash", "--norc", "-c", f"source {script}; complete -p mqtt"]), "complete -o default -F _mqtt mqtt\n")
+    page = room.file("mqtt.1", output_of([PROGRAM, "manual"]).encode())
+    shown = output_of(["man", "--warnings", "-l", page]) if shutil.which("man") else None
+    listed = output_of([PROGRAM, "--help"]).split("Commands:\n")[1].split("\n\n")[0]
+    commands = [*re.findall(r"^  (\S+)", listed, flags=re.M), "pub", "sub"]
+    same("commands", sorted(completed(script, "")), sorted([*commands, "-h", "--help", "-V", "--version"]))
+    same("commands with p", sorted(completed(script, "p")), ["password", "pub", "publish"])
+    same("commands of help", sorted(completed(script, "help", "s")), ["serve", "show", "sub"])
+    same("shells", completed(script, "completion", ""), ["bash"])
+    for command in commands:
+        if command == "help":
+            continue
+        text = output_of([PROGRAM, command, "--help"])
+        same(f"help {command}", output_of([PROGRAM, "help", command]), text)
+        rows = re.findall(r"^  (?:(-\S), )?\s*(-\S+)( <.*?>)?", text.split("Options:\n")[1].split("\n\n")[0], flags=re.M)
+        names = [it for row in rows for it in row[:2] if it]
+        same(f"options of {command}", sorted(completed(script, command, "-")), sorted(names))
+        for short, long, value in rows:
+            for it in filter(None, (short, long) if value else ()):
+                same(f"the value of {command} {it}", completed(script, command, it, ""), [])
+            section = shown and re.split(rf"\n   mqtt {command}\b", shown)[1].split("\n   mqtt ")[0]
+            if shown and not re.search(rf"^       (\S+, )?{re.escape(long + value)}( |$)", section, flags=re.M):
+                raise AssertionError(f"the manual page has no option {long}{value} of {command}")
+
+
+@check("session files: no lock after an error", alone=True)
+def _(room):
+    os.mkdir(f"{room.folder}/sessions")
+    for content in (b"no session", b"LOSTno session", b"LOST", None):
+        name = f"{room.folder}/sessions/session"
+        if content is None:
+            os.remove(name)
+            os.mkdir(name)
+        else:
+            room.file("sessions/session", content)
+        for kind, options in (("pub", ["-m", "x"]), ("sub", [])):
+            found = room.start([*OURS[kind], "-p", free_port(), "-t", "a", "--session", name, *options]).ended()
+            same(f"{kind} with {content}", (found[0], b"session file" in found[2]), (1, True))
+            same(f"files after {kind} with {content}", os.listdir(f"{room.folder}/sessions"), ["session"])
+    for options in (["-P", "x"], ["--password-file", "/nonexistent"]):
+        name = f"{room.folder}/sessions/new"
+        found = room.start([*OURS["sub"], "-p", free_port(), "-t", "a", "--session", name, *options]).ended()
+        same(f"sub {options}", (found[0], os.listdir(f"{room.folder}/sessions")), (1, ["session"]))
+
+
+class Witness:
+    """A subscriber of this script, which receives the messages below a topic concurrently."""
+
+    def __init__(self, port, topic):
+        self.peer, self.found = Peer(port, b"witness", topic + b"/#"), []
+        self.marker, self.mark, self.marks = Peer(port, b"marker", None), topic + b"/mark", 0
+        threading.Thread(target=self.receive, daemon=True).start()
+
+    def receive(self):
+        """Receives until the stream is closed. A message of QoS 2 is released before the next one."""
+        stream = self.peer.stream
+        stream.settimeout(None)
+        with contextlib.suppress(OSError, AssertionError, EOFError):
+            while True:
+                first, body = self.peer.read()
+                if first >> 4 == 3:
+                    size = struct.unpack(">H", body[:2])[0]
+                    if body[2:2 + size] == self.mark:
+                        self.marks += 1
+                    else:
+                        self.found.append(body[4 + size:])
+                    stream.sendall(b"\x50\2" + body[2 + size:4 + size])
+                elif first >> 4 == 6:
+                    stream.sendall(b"\x70\2" + body[:2])
+
+    def until(self, count, goes_on=lambda: True):
+        """Waits until this many messages have arrived, or something has ended."""
+        for _ in range(LIMIT * 500):
+            if len(self.found) >= count or not goes_on():
+                return
+            time.sleep(0.01)
+        raise AssertionError(f"{len(self.found)} of {count} messages arrived")
+
+    def settle(self):
+        """Waits until it has received everything that the broker has."""
+        wanted = self.marks + 1
+        self.marker.publish(self.mark, b"", 2)
+        self.until(sys.maxsize, lambda: self.marks < wanted)
+
+    def close(self):
+        self.marker.close()
+        self.peer.close()
+
+
+class Killed(threading.Thread):
+    """Runs `sub` with a session file, and kills it each time that it has printed so many lines."""
+
+    def __init__(self, room, words, places, count):
+        super().__init__(daemon=True)
+        self.room, self.words, self.places, self.count = room, words, places, count
+        self.printed, self.again, self.error = [], 0, None
+
+    def lines_of(self, output):
+        """The new lines of a run. A message that was printed just before the kill may come again."""
+        lines = output.split(b"\n")[:-1]
+        is_again = bool(self.printed) and lines[:1] == self.printed[-1:]
+        return lines[is_again:], is_again
+
+    def run(self):
+        try:
+            for place in [*self.places, self.count]:
+                running = self.room.start(self.words)
+                for _ in range(LIMIT * 500):
+                    if len(self.printed) + len(self.lines_of(running.read())[0]) >= place or running.process.poll() is not None:
+                        break
+                    time.sleep(0.01)
+                running.stop()
+                output = running.read()
+                lines, is_again = self.lines_of(output)
+                self.printed.extend(lines)
+                self.again += is_again
+                assert running.process.returncode == -signal.SIGKILL, running.ended()
+                assert output[-1:] in (b"", b"\n"), f"half a line: {output[-50:]}"
+                assert len(self.printed) >= place, f"{len(self.printed)} of {place} messages are printed"
+        except (AssertionError, OSError) as error:
+            self.error = error
+
+
+def publish_killed(room, words, lines, places, witness):
+    """Publishes lines by `pub` with a session file, and kills it each time that so many have arrived."""
+    for place in places:
+        running = room.start([*words, "-l"], b"".join(lines[len(witness.found):]))
+        witness.until(place, lambda: running.process.poll() is None)
+        same("status of a killed pub", (running.process.poll(), running.read(".errors")), (None, b""))
+        running.stop()
+        # The messages that it had accepted are published before any other one.
+        same("status of pub without lines", room.start([*words, "-l"], b"").ended(), (0, b"", b""))
+        witness.settle()
+    same("status of pub", room.start([*words, "-l"], b"".join(lines[len(witness.found):])).ended(), (0, b"", b""))
+    witness.settle()
+
+
+def look_at_kills(room, seed, count=1000, kills=5):
+    """Publishes and prints messages of QoS 2 across cuts and kills of both commands."""
+    chance = random.Random(seed)
+    proxy, witness = Proxy(room.port, seed), Witness(room.port, b"kills/%d" % seed)
+    options = ["-t", f"kills/{seed}/a", "-q", 2, "--retry", 1]
+    sub = [*OURS["sub"], *options, "--session", f"{room.folder}/sub{seed}"]
+    pub = [*OURS["pub"], *options, "--session", f"{room.folder}/pub{seed}", "-p", proxy.port]
+    same("subscribe", room.start([*sub, "-p", room.port, "-E"]).ended()[0], 0)
+    lines = [b"%d" % it for it in range(count)]
+    places = [sorted(chance.sample(range(1, count * 9 // 10), kills)) for _ in range(2)]
+    killed = Killed(room, [*sub, "-p", proxy.port], places[0], count)
+    killed.start()
+    publish_killed(room, pub, [it + b"\n" for it in lines], places[1], witness)
+    killed.join(LIMIT * 5)
+    if killed.error or killed.is_alive():
+        raise AssertionError(f"round {seed}: {killed.error or 'sub prints nothing more'}")
+    same(f"round {seed}: the messages at the broker", witness.found, lines)
+    same(f"round {seed}: the printed messages", killed.printed, lines)
+    witness.close()
+    proxy.close()
+    return proxy.cuts, killed.again
+
+
+@check("kills: each message once", alone=True)
+def _(room):
+    # The rounds alternate between the brokers, if mosquitto's is there.
+    ports = []
+    for start in (room.own_broker, *([room.broker] if NEEDED["mosquitto"] else [])):
+        start()
+        ports.append(room.port)
+    found = []
+    for seed in range(ROUNDS):
+        room.port = ports[seed % len(ports)]
+        found.append(look_at_kills(room, seed))
+    cuts, again = (sum(it) for it in zip(*found))
+    print(f"kills: {ROUNDS} rounds, {cuts} cuts, {again} messages printed again after a kill", flush=True)
+    if cuts < 2 * ROUNDS:
+        raise AssertionError(f"only {cuts} cuts")
+
+
+def look_at(function):
+    """Runs a check in a folder of its own. Returns its error, if there is one."""
+    with tempfile.TemporaryDirectory(prefix="pub-sub-") as folder, contextlib.ExitStack() as stack:
+        try:
+            function(Room(folder, stack))
+        except (AssertionError, OSError, subprocess.SubprocessError) as error:
+            return str(error) or repr(error)
+    return None
+
+
+def faults_of(program):
+    """The faults of the checks without mosquitto, with two rounds of kills."""
+    global PROGRAM, ROUNDS
+    PROGRAM, ROUNDS = program, 2
+    NEEDED.update(dict.fromkeys(NEEDED))
+    OURS.update({"pub": [program, "pub"], "sub": [program, "sub"]})
+    found = [(name, look_at(function)) for name, function in checks if name in ALONE]
+    return [f"{name}: {error}" for name, error in found if error]
+
+
 def main():
     missing = [name for name, found in NEEDED.items() if not found]
-    if missing:
-        print(f"pub_sub: nothing was run, since {', '.join(missing)} is not installed (Debian: apt-get install mosquitto mosquitto-clients)")
-        return 0
     chosen = [it for it in checks if not CHOSEN or any(word in it[0] for word in CHOSEN)]
+    if missing:
+        print(f"pub_sub: {', '.join(missing)} is not installed (Debian: apt-get install mosquitto mosquitto-clients)")
+        chosen = [it for it in chosen if it[0] in ALONE]
     for name, function in chosen:
         started = time.monotonic()
-        with tempfile.TemporaryDirectory(prefix="pub-sub-") as folder, contextlib.ExitStack() as stack:
-            try:
-                function(Room(folder, stack))
-                print(f"{name}: as mosquitto, {time.monotonic() - started:.1f} s", flush=True)
-            except (AssertionError, OSError, subprocess.SubprocessError) as error:
-                faults.append(name)
-                print(f"{name}: WRONG: {error}", flush=True)
+        error = look_at(function)
+        if error:
+            faults.append(name)
+        right = "right" if name in ALONE else "as mosquitto"
+        print(f"{name}: {f'WRONG: {error}' if error else right}, {time.monotonic() - started:.1f} s", flush=True)
     print(f"pub_sub: {'nothing' if not faults else len(faults)} found to be wrong in {len(chosen)} checks")
     return 1 if faults else 0
 

@@ -1,12 +1,14 @@
 #!/usr/bin/env python3
 """Compares `mqtt broker` with mosquitto in one run.
 
-    bench/brokers.py PROGRAM [--seconds S] [--rows TEXT] [--data DIR] [--csv FILE]
+    bench/brokers.py PROGRAM [--seconds S] [--rows TEXT] [--data DIR] [--csv FILE] [--first]
 
 PROGRAM is the program mqtt. Each broker runs alone on processor 0, the load on the others. Each row
 is a run of bench/broker_load.c of S seconds (1 by default). --rows measures only rows whose name
-has TEXT. --csv writes the rows to a file. `mqtt broker` runs with its state in memory, and with a
-journal (`--keep system`, `--keep disk`) in a folder of its own in DIR, by default a temporary one.
+has TEXT. --csv writes the rows to a file. --first runs brokers and loads before all other processes
+(SCHED_FIFO; it needs root), on a machine that has other work. `mqtt broker` runs with its state in
+memory, and with a journal (`--keep system`, `--keep disk`) in a folder of its own in DIR, by
+default a temporary one.
 The columns: messages delivered in a second and the share of a processor that the broker used, for
 each broker, and the ratios to mosquitto.
 """
@@ -31,16 +33,25 @@ set_tcp_nodelay true
 """
 
 
+def settle(processors, first):
+    """Returns what a new process does: it stays on these processors, and runs first if asked."""
+    def begin():
+        os.sched_setaffinity(0, processors)
+        if first:
+            os.sched_setscheduler(0, os.SCHED_FIFO, os.sched_param(1))
+    return begin
+
+
 class Broker:
     """A broker that runs on processor 0 until the block ends."""
 
-    def __init__(self, command, port=None, journal=None):
-        self.command, self.port, self.journal = command, port, journal
+    def __init__(self, command, first, port=None, journal=None):
+        self.command, self.first, self.port, self.journal = command, first, port, journal
 
     def __enter__(self):
         output = subprocess.PIPE if self.port is None else subprocess.DEVNULL
         self.process = subprocess.Popen(self.command, stdout=output, stderr=subprocess.DEVNULL,
-                                        preexec_fn=lambda: os.sched_setaffinity(0, {0}))
+                                        preexec_fn=settle({0}, self.first))
         if self.port is None:
             line = self.process.stdout.readline().decode()
             found = re.fullmatch(r"listening .*:(\d+)\n", line)
@@ -68,9 +79,9 @@ class Broker:
 
 
 class Bench:
-    def __init__(self, program, folder, seconds, data):
+    def __init__(self, program, folder, seconds, data, first):
         self.program, self.folder, self.seconds = os.path.abspath(program), folder, seconds
-        self.data = data or folder
+        self.data, self.first = data or folder, first
         self.load = os.path.join(folder, "load")
         subprocess.run([os.environ.get("CC", "cc"), "-std=c11", "-O2", "-o", self.load,
                         os.path.join(HERE, "broker_load.c")], check=True)
@@ -87,20 +98,20 @@ class Bench:
             command = [self.program, "broker", "--quiet", "--listen", "127.0.0.1:0",
                        "--max-connections", "20000"]
             if name == "mqtt broker":
-                return Broker(command)
+                return Broker(command, self.first)
             journal = tempfile.mkdtemp(dir=self.data)
-            return Broker([*command, "--data", journal, "--keep", name], journal=journal)
+            return Broker([*command, "--data", journal, "--keep", name], self.first, journal=journal)
         port = subprocess.run([self.load, "port"], check=True, capture_output=True, text=True).stdout.strip()
         config = os.path.join(self.folder, "mosquitto.conf")
         with open(config, "w", encoding="ascii") as file:
             file.write(MOSQUITTO.format(port=port))
-        return Broker([self.mosquitto, "-c", config], port)
+        return Broker([self.mosquitto, "-c", config], self.first, port)
 
     def run(self, broker, *words):
         """What a load prints, or None after it said on standard error what went wrong."""
         done = subprocess.run([self.load, broker.port, *map(str, words)], stdin=subprocess.DEVNULL,
                               capture_output=True, text=True,
-                              preexec_fn=lambda: os.sched_setaffinity(0, self.others))
+                              preexec_fn=settle(self.others, self.first))
         if done.returncode != 0:
             print(f"  {done.stderr.strip()}", file=sys.stderr)
             return None
@@ -121,7 +132,7 @@ class Bench:
             before = broker.memory()
             load = subprocess.Popen([self.load, broker.port, "idle", str(count)], stdin=subprocess.PIPE,
                                     stdout=subprocess.PIPE, text=True,
-                                    preexec_fn=lambda: os.sched_setaffinity(0, self.others))
+                                    preexec_fn=settle(self.others, self.first))
             took = load.stdout.readline().strip()
             grown = (broker.memory() - before) / count
             load.communicate("\n")
@@ -189,10 +200,11 @@ def main():
     parser.add_argument("--rows", default="", help="only rows whose name has this text")
     parser.add_argument("--data", help="a folder for the journals")
     parser.add_argument("--csv", help="a file for the rows")
+    parser.add_argument("--first", action="store_true", help="run before all other processes, as root")
     words = parser.parse_args()
     rows = []
     with tempfile.TemporaryDirectory() as folder:
-        bench = Bench(words.program, folder, words.seconds, words.data)
+        bench = Bench(words.program, folder, words.seconds, words.data, words.first)
         if not bench.mosquitto:
             print("mosquitto is not installed, so there is nothing to compare with (Debian: apt-get install mosquitto)")
         flows(bench, words.rows, rows)

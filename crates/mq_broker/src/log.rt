@@ -47,8 +47,8 @@ impl<W: Write> Log<W> {
         }
     }
 
-    // Whether the log has lines of this level.
-    fn has(&self, level: LogLevel) -> bool {
+    /// Whether the log has lines of this level.
+    pub(crate) fn has(&self, level: LogLevel) -> bool {
         self.level >= level
     }
 

@@ -1,4 +1,4 @@
-//! The peers of the connections, for the log.
+//! The clients and peers of the connections.
 
 use mq_topic::ClientKey;
 use mq_wire::Text;
@@ -14,22 +14,45 @@ pub(crate) struct Peer {
     pub(crate) client: Option<Text>,
 }
 
-/// The peers of the connections, by place.
+/// The clients of the connections, by place. If there is a log, also their peers.
 #[derive(Drop)]
 pub(crate) struct Peers {
+    keys: Vec<Option<ClientKey>>,
+    // Empty if there is no log.
     peers: Vec<Option<Peer>>,
+    has_log: bool,
 }
 
 impl Peers {
-    pub(crate) fn new(alloc: Global) -> Peers {
+    pub(crate) fn new(alloc: Global, has_log: bool) -> Peers {
         Peers {
+            keys: Vec::new(alloc),
             peers: Vec::new(alloc),
+            has_log,
         }
+    }
+
+    /// Makes room for this number of places in all.
+    pub(crate) fn reserve(&mut self, places: usize) -> Result<(), AllocError> {
+        self.keys.reserve(places.saturating_sub(self.keys.len()))?;
+        if self.has_log {
+            self.peers.reserve(places.saturating_sub(self.peers.len()))?;
+        }
+        Ok(())
     }
 
     /// Stores the address of the connection at a place.
     pub(crate) fn insert(&mut self, place: u32, address: SocketAddr) -> Result<(), AllocError> {
         let at = place as usize;
+        for _ in self.keys.len()..at.saturating_add(1) {
+            self.keys.push(None)?;
+        }
+        if at < self.keys.len() {
+            self.keys[at] = None;
+        }
+        if !self.has_log {
+            return Ok(());
+        }
         for _ in self.peers.len()..at.saturating_add(1) {
             self.peers.push(None)?;
         }
@@ -43,6 +66,7 @@ impl Peers {
         Ok(())
     }
 
+    /// The peer of the connection at a place. `None` if there is no log.
     pub(crate) fn get(&self, place: u32) -> Option<&Peer> {
         let at = place as usize;
         if at >= self.peers.len() {
@@ -53,12 +77,20 @@ impl Peers {
 
     /// The session of the client that is connected at a place.
     pub(crate) fn key(&self, place: u32) -> Option<ClientKey> {
-        self.get(place)?.key
+        let at = place as usize;
+        if at < self.keys.len() {
+            self.keys[at]
+        } else {
+            None
+        }
     }
 
-    /// Stores the client of the connection at a place.
+    /// Stores the client of the connection at a place. Its identifier is kept for the log only.
     pub(crate) fn set_client(&mut self, place: u32, key: ClientKey, client: Option<Text>) {
         let at = place as usize;
+        if at < self.keys.len() {
+            self.keys[at] = Some(key);
+        }
         if at >= self.peers.len() {
             return;
         }
@@ -70,6 +102,9 @@ impl Peers {
 
     pub(crate) fn remove(&mut self, place: u32) {
         let at = place as usize;
+        if at < self.keys.len() {
+            self.keys[at] = None;
+        }
         if at < self.peers.len() {
             self.peers[at] = None;
         }

@@ -192,6 +192,10 @@ pub record IsDraw (command : Option (Text × List Row)) (draw : Draw) : Type 0 w
   pub source : GivesSource command (codes "replay") (codes "FILE") draw.source
   pub image : GivesWord command (codes "replay") (codes "SVG") draw.image.now
 
+-- the command of this name was met
+abbrev pub IsMet : Option (Text × List Row) → Text → Type 0
+IsMet command name = (rows : List Row) × (command ≡ Some (name, rows))
+
 -- the command that was met, and its values, are this one
 abbrev pub IsCommandOf : Option (Text × List Row) → Command → Type 0
 IsCommandOf command (commands.Job job) = IsJobOf command job
@@ -203,6 +207,8 @@ IsCommandOf command (commands.Publish publish) = IsPublish command publish
 IsCommandOf command (commands.Collect collect) = IsCollect command collect
 IsCommandOf command (commands.Loopback source) = GivesSource command (codes "loopback") (codes "FILE") source
 IsCommandOf command (commands.Draw draw) = IsDraw command draw
+IsCommandOf command commands.Completion = GivesWord command (codes "completion") (codes "SHELL") (codes "bash")
+IsCommandOf command commands.Manual = IsMet command (codes "manual")
 
 -- The source of the bytes that a job reads.
 abbrev pub job_source : Job → Option Source

@@ -139,5 +139,9 @@ abbrev pub broker_words : App
 broker_words = with_logs (with_data (with_extras (with_patience (with_sessions (with_limits (with_tables (with_rule (new_app (codes "broker")) (file_rule (codes "LISTEN") (codes "listen")))))))))
 
 -- `broker`, `journal FILE`, `password NAME`, `loopback FILE`
+abbrev pub served_words : App
+served_words = with_subcommand (with_subcommand (with_subcommand (with_subcommand socket_words broker_words.top) (word_words (codes "journal") (codes "FILE")).top) (word_words (codes "password") (codes "NAME")).top) (word_words (codes "loopback") (codes "FILE")).top
+
+-- `completion SHELL`, `manual`
 abbrev pub program_words : App
-program_words = with_subcommand (with_subcommand (with_subcommand (with_subcommand socket_words broker_words.top) (word_words (codes "journal") (codes "FILE")).top) (word_words (codes "password") (codes "NAME")).top) (word_words (codes "loopback") (codes "FILE")).top
+program_words = with_subcommand (with_subcommand served_words (word_words (codes "completion") (codes "SHELL")).top) (new_app (codes "manual")).top

@@ -29,11 +29,10 @@ fn number_option(name: &str) -> Option<NumberOption> {
     Some(NumberOption { word, least, most })
 }
 
-// The command for a word that other programs use.
+// The command for a word that other programs use. `mqtt` handles `pub` and `sub` itself.
 fn better_command(word: &str) -> Option<&'static str> {
     match word {
-        "sub" | "subscribe" => Some("collect"),
-        "pub" => Some("publish"),
+        "subscribe" => Some("collect"),
         _ => None,
     }
 }

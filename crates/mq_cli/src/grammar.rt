@@ -3,7 +3,7 @@
 ghost use Rattle.std.specs.Prelude.{◌≡◌, false, codes, IfOk};
 ghost use Rattle.clap.specs.Words.{App, app_of, new_app, rule_of, with_rule, with_subcommand};
 ghost use Rattle.clap.specs.declared.builder.command.Command.TheViews.{out-Command};
-ghost use Rattle.mq_cli.specs.Grammar.{bare_words, check_words, client_words, collect_words, file_rule, flag_rule, job_words, lenient_rule, match_words, number_rule, port_rule, program_words, publish_words, qos_rule, random_words, replay_words, serve_words, show_words, socket_words, stream_words, text_rule, texts_rule, word_words};
+ghost use Rattle.mq_cli.specs.Grammar.{bare_words, check_words, client_words, collect_words, file_rule, flag_rule, job_words, lenient_rule, match_words, number_rule, port_rule, program_words, publish_words, qos_rule, random_words, replay_words, serve_words, served_words, show_words, socket_words, stream_words, text_rule, texts_rule, word_words};
 
 use crate::broker::broker_command;
 use clap::builder::ValueParser;
@@ -456,15 +456,51 @@ fn socket_commands<'a>(alloc: Global) -> Result<Command<'a>, AllocError>
     with_command(line, collect_command(alloc))
 }
 
-/// The whole command line.
-pub(crate) fn command_line<'a>(alloc: Global) -> Result<Command<'a>, AllocError>
-    ensures { IfOk result (λ command. app_of command ≡ program_words) }
+// `completion SHELL`.
+fn completion_command<'a>(alloc: Global) -> Result<Command<'a>, AllocError>
+    ensures words { IfOk result
+        (λ command. app_of command ≡ word_words (codes "completion") (codes "SHELL")) }
+    ensures local { IfOk result (λ command. (out-Command command).has_globals ≡ false) }
+{
+    let texts = Texts {
+        name: "completion",
+        about: "Prints a script that completes commands and options in a shell",
+        example: "Example: source <(mqtt completion bash)",
+    };
+    word_command(alloc, texts, "SHELL", "The shell: bash")
+}
+
+// `manual`.
+fn manual_command<'a>(alloc: Global) -> Result<Command<'a>, AllocError>
+    ensures words { IfOk result (λ command. app_of command ≡ new_app (codes "manual")) }
+    ensures local { IfOk result (λ command. (out-Command command).has_globals ≡ false) }
+{
+    let texts = Texts {
+        name: "manual",
+        about: "Prints a manual page",
+        example: "Example: mqtt manual >mqtt.1; man -l mqtt.1",
+    };
+    Ok(new_command(alloc, texts))
+}
+
+// The command line without the commands that print texts about it.
+fn served_commands<'a>(alloc: Global) -> Result<Command<'a>, AllocError>
+    ensures { IfOk result (λ command. app_of command ≡ served_words) }
 {
     let line = socket_commands(alloc)?;
     let line = with_command(line, broker_command(alloc))?;
     let line = with_command(line, journal_command(alloc))?;
     let line = with_command(line, password_command(alloc))?;
     with_command(line, loopback_command(alloc))
+}
+
+/// The whole command line.
+pub fn command_line<'a>(alloc: Global) -> Result<Command<'a>, AllocError>
+    ensures { IfOk result (λ command. app_of command ≡ program_words) }
+{
+    let line = served_commands(alloc)?;
+    let line = with_command(line, completion_command(alloc))?;
+    with_command(line, manual_command(alloc))
 }
 
 /// The command of this name for the usage line of an error, or the whole command line.
@@ -482,6 +518,18 @@ pub(crate) fn shown_command<'a>(alloc: Global, name: &str) -> Result<Command<'a>
         "journal" => journal_command(alloc)?.bin_name("mqtt journal"),
         "password" => password_command(alloc)?.bin_name("mqtt password"),
         "loopback" => loopback_command(alloc)?.bin_name("mqtt loopback"),
+        "completion" => completion_command(alloc)?.bin_name("mqtt completion"),
+        "manual" => manual_command(alloc)?.bin_name("mqtt manual"),
         _ => command_line(alloc),
     }
+}
+
+/// Each command of the command line, with the usage line that its help shows.
+pub fn command_list<'a>(alloc: Global) -> Result<Vec<Command<'a>>, AllocError> {
+    let line = command_line(alloc)?;
+    let mut commands = Vec::new(alloc);
+    for command in line.get_subcommands() {
+        commands.push(shown_command(alloc, command.get_name())?)?;
+    }
+    Ok(commands)
 }

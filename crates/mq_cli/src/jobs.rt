@@ -36,6 +36,10 @@ pub enum Command<'a> {
     Loopback(Source<'a>),
     /// To replay a schedule and draw it.
     Draw(Draw<'a>),
+    /// To print a script for bash that completes commands and options.
+    Completion,
+    /// To print a manual page.
+    Manual,
 }
 
 /// A schedule to replay and draw.

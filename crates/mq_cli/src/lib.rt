@@ -21,6 +21,7 @@ mod words;
 pub use crate::broker::{Broker, DataFolder, Durability, OnFull};
 pub use crate::count::{CountEnd, CountFault, PacketCount, count_packets};
 pub use crate::failure::{Failure, exit_status};
+pub use crate::grammar::{command_line, command_list};
 pub use crate::input::{Fallible, JobInput};
 pub use crate::jobs::{Collect, Command, Draw, Job, Publish, Serve, Source};
 pub use crate::output::{perform, perform_file, perform_opened};

@@ -1,8 +1,8 @@
 //! The words of the command line.
 
-ghost use Rattle.std.specs.Prelude.{◌≡◌, ◌≤◌, ◌≢◌, [], None, codes, map, option_map, IfOk, IfSome};
+ghost use Rattle.std.specs.Prelude.{◌≡◌, ◌≤◌, ◌≢◌, [], None, codes, map, option_map, true, IfOk, IfSome};
 ghost use Rattle.clap.specs.Words.{subcommand_of, subcommand_rows_of};
-ghost use Rattle.mq_cli.specs.CommandLine.{GivesFlag, GivesId, GivesNumber, GivesQos, GivesSource, GivesTexts, GivesWord, HasWord, IsCollect, IsCommandOf, IsDigitsJob, IsDraw, IsJobOf, IsPublish, IsServe, IsSource};
+ghost use Rattle.mq_cli.specs.CommandLine.{GivesFlag, GivesId, GivesNumber, GivesQos, GivesSource, GivesTexts, GivesWord, HasWord, IsCollect, IsCommandOf, IsDigitsJob, IsDraw, IsJobOf, IsMet, IsPublish, IsServe, IsSource};
 ghost use Rattle.mq_cli.specs.Grammar.{program_words};
 
 use crate::advice::advised;
@@ -343,6 +343,26 @@ fn loopback_of<'a>(matches: &ArgMatches<'a>) -> Option<Source<'a>>
     source_of(matches, "loopback", "FILE")
 }
 
+// Whether `completion bash` was given.
+fn is_completion(matches: &ArgMatches<'_>) -> bool
+    ensures { result ≡ true → GivesWord (subcommand_rows_of matches.now)
+        (codes "completion") (codes "SHELL") (codes "bash") }
+{
+    match word_of(matches, "completion", "SHELL") {
+        Some("bash") => true,
+        _ => false,
+    }
+}
+
+fn is_manual(matches: &ArgMatches<'_>) -> bool
+    ensures { result ≡ true → IsMet (subcommand_rows_of matches.now) (codes "manual") }
+{
+    match given_of(matches, "manual", "help") {
+        Some(_) => true,
+        None => false,
+    }
+}
+
 fn command_of<'a>(
     alloc: Global,
     matches: &ArgMatches<'a>,
@@ -373,6 +393,12 @@ fn command_of<'a>(
     }
     if let Some(draw) = draw_of(matches) {
         return Ok(Some(Command::Draw(draw)));
+    }
+    if is_completion(matches) {
+        return Ok(Some(Command::Completion));
+    }
+    if is_manual(matches) {
+        return Ok(Some(Command::Manual));
     }
     match publish_of(alloc, matches)? {
         Some(publish) => Ok(Some(Command::Publish(publish))),
@@ -410,6 +436,11 @@ fn complaint(matches: &ArgMatches<'_>) -> (&'static str, ErrorKind, &'static str
             "collect",
             ErrorKind::ValueValidation,
             "an ID has 65,535 bytes at most",
+        ),
+        Some("completion") => (
+            "completion",
+            ErrorKind::ValueValidation,
+            "completion wants bash",
         ),
         _ => (
             "show",

@@ -138,6 +138,10 @@ impl<S: Socket> Connection<S> {
         ensures { self.new ≡ record self.old { unread = drop count self.old.unread } }
     {
         self.unread.advance(count);
+        if self.unread.is_empty() {
+            // Drops the memory of the bytes.
+            self.unread = Bytes::new();
+        }
     }
 
     /// Stores bytes that wait for a step, or none. If an allocation fails, marks that they are
@@ -176,6 +180,8 @@ impl<S: Socket> Connection<S> {
     {
         for _ in 0..u64::MAX {
             if self.kept.is_empty() {
+                // Drops the memory of the output that is written.
+                self.kept = Bytes::new();
                 return Flushed::All;
             }
             match self.socket.write(self.kept.as_slice()) {

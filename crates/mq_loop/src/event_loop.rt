@@ -197,6 +197,17 @@ impl<B: Broker + Drop, S: Socket + Drop, O: Observer + Drop> EventLoop<B, S, O> 
         self.watched.take_reports()
     }
 
+    /// Makes room for this number of places in all, so that no list moves while they are added.
+    /// Most systems provide the memory only when it is used.
+    pub fn reserve(&mut self, places: usize) -> Result<(), AllocError>
+        ensures { self.new ≡ self.old }
+    {
+        self.watched.reserve(places)?;
+        make_room_for(&mut self.readings, places)?;
+        self.ages.reserve(places.saturating_sub(self.ages.len()))?;
+        self.reserve_lists(places)
+    }
+
     /// Returns a place without a connection, for the next call of [`open`](EventLoop::open).
     pub fn vacant_place(&mut self) -> Result<u32, AllocError>
         ensures base { self.new.watched.served.base ≡ self.old.watched.served.base }
@@ -230,12 +241,18 @@ impl<B: Broker + Drop, S: Socket + Drop, O: Observer + Drop> EventLoop<B, S, O> 
     fn double_room(&mut self) -> Result<(), AllocError>
         ensures { self.new ≡ self.old }
     {
-        let room = self.room.saturating_mul(2).max(FIRST_ROOM);
+        self.reserve_lists(self.room.saturating_mul(2).max(FIRST_ROOM))
+    }
+
+    // Makes room for this number of places in each list.
+    fn reserve_lists(&mut self, room: usize) -> Result<(), AllocError>
+        ensures { self.new ≡ self.old }
+    {
         make_room_for(&mut self.newcomers, room)?;
         // A place is listed as ready again if its connection ended and another one was opened.
         make_room_for(&mut self.ready, room.saturating_mul(2))?;
         make_room_for(&mut self.turns, room.saturating_mul(2))?;
-        self.room = room;
+        self.room = self.room.max(room);
         Ok(())
     }
 

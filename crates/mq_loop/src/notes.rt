@@ -162,6 +162,18 @@ impl Notes {
         }
     }
 
+    /// Makes room for notes about this number of places in all.
+    pub(crate) fn reserve(&mut self, places: usize) -> Result<(), AllocError>
+        ensures clients { self.new.clients ≡ self.old.clients }
+        ensures marked { self.new.marked ≡ self.old.marked }
+        ensures over { self.new.over ≡ self.old.over }
+        ensures failed { self.new.has_failed ≡ self.old.has_failed }
+    {
+        self.seats.reserve(places.saturating_sub(self.seats.len()))?;
+        self.marked.reserve(places)?;
+        self.over.reserve(places)
+    }
+
     /// Makes room for notes about one more place than this number.
     pub(crate) fn add_place(&mut self, places: usize) -> Result<(), AllocError>
         requires marked { places ≤ length self.old.marked }

@@ -52,6 +52,13 @@ impl PlaceSet {
         Ok(())
     }
 
+    /// Makes room for this number of places in all.
+    pub(crate) fn reserve(&mut self, places: usize) -> Result<(), AllocError>
+        ensures { self.new ≡ self.old }
+    {
+        self.flags.reserve(places.saturating_sub(self.flags.len()))
+    }
+
     /// The number of places.
     pub(crate) fn places(&self) -> usize
         ensures { result ≡ length self.now }

@@ -133,6 +133,14 @@ impl<B: Broker + Drop, S: Socket + Drop> Served<B, S> {
         self.connections.len()
     }
 
+    /// Makes room for this number of places in all.
+    pub fn reserve(&mut self, places: usize) -> Result<(), AllocError>
+        ensures { self.new ≡ self.old }
+    {
+        self.connections
+            .reserve(places.saturating_sub(self.connections.len()))
+    }
+
     /// Adds a place without a connection. Returns the place, or an error if there are 2^32.
     #[tactic(auto, using(crate::proofs::CarriedBytes::place_served))]
     pub fn add_place(&mut self) -> Result<u32, AllocError>

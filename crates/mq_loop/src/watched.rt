@@ -77,6 +77,14 @@ impl<B: Broker + Drop, S: Socket + Drop> Watched<B, S> {
         self.served.laws();
     }
 
+    /// Makes room for this number of places in all.
+    pub(crate) fn reserve(&mut self, places: usize) -> Result<(), AllocError>
+        ensures { self.new ≡ self.old }
+    {
+        self.served.reserve(places)?;
+        self.notes.reserve(places)
+    }
+
     /// Adds a place without a connection.
     pub(crate) fn add_place(&mut self) -> Result<u32, AllocError>
         ensures base { self.new.served.base ≡ self.old.served.base }

@@ -74,3 +74,5 @@ IsClientRun (commands.Publish publish) status text = IsPublishRun publish status
 IsClientRun (commands.Collect collect) status text = IsCollectRun collect status text
 IsClientRun (commands.Loopback source) status text = ⊥
 IsClientRun (commands.Draw draw) status text = ⊥
+IsClientRun commands.Completion status text = ⊥
+IsClientRun commands.Manual status text = ⊥

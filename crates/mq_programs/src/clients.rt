@@ -337,6 +337,8 @@ pub fn run_client<R: Net + Clock + Files<File = File>, E: Write, W: Write>(
         | Command::Journal(_)
         | Command::Password(_)
         | Command::Loopback(_)
-        | Command::Draw(_) => Err(Failure::Words),
+        | Command::Draw(_)
+        | Command::Completion
+        | Command::Manual => Err(Failure::Words),
     }
 }

@@ -1,10 +1,13 @@
 //! Connections to one broker.
 
+use crate::common::patience_of;
+use crate::explain::Place;
 use crate::polled::PolledStream;
 use crate::trace::TracedStream;
 use crate::watch::Watch;
 use mq_client::Connection;
 use mq_pubsub::Setup;
+use mq_pubsub_options::Common;
 use mq_pubsub_runs::{Network, PacketStream};
 use mq_stream::{Broken, Elapsed, Stream};
 use std::alloc::Global;
@@ -66,6 +69,47 @@ fn connect_any<R: Net>(net: &R, host: &str, port: u16) -> Result<R::Stream, NoLi
         }
     }
     Err(failure)
+}
+
+impl<'a, R> Link<'a, R> {
+    /// Connections to the broker of the options.
+    pub(crate) fn new(
+        rt: &'a R,
+        alloc: Global,
+        common: &'a Common,
+        watch: &'a Watch,
+        start: Instant,
+    ) -> Link<'a, R> {
+        Link {
+            rt,
+            alloc,
+            host: common.address.host.as_str(),
+            port: common.address.port,
+            watch,
+            start,
+            patience: patience_of(common.keep_alive),
+            is_traced: common.debug,
+            failure: None,
+        }
+    }
+
+    /// The broker, for sentences of this command.
+    pub(crate) fn place(
+        &self,
+        command: &'a str,
+        common: &Common,
+        session: Option<&'a str>,
+    ) -> Place<'a> {
+        Place {
+            command,
+            host: self.host,
+            port: self.port,
+            failure: self.failure,
+            session,
+            has_user: common.address.user.is_some(),
+            retries: common.longest_wait.is_some(),
+        }
+    }
 }
 
 impl<'a, R: Net + Clock + Eprint> Link<'a, R> {

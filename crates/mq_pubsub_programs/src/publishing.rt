@@ -1,7 +1,7 @@
 //! The command `mqtt pub`.
 
-use crate::common::{defaults_of, identifier, patience_of, read_file, said, setup_of, unread};
-use crate::explain::{Place, Work, status_of, tell_end};
+use crate::common::{defaults_of, identifier, read_file, said, setup_of, unread};
+use crate::explain::{Work, status_of, tell_end};
 use crate::feed::{Feed, Supply};
 use crate::known::Known;
 use crate::link::Link;
@@ -199,6 +199,71 @@ fn publish_kept<R: Net + Clock + Eprint + Files<File = File>>(
     Ok((tally, end))
 }
 
+// The source of the messages, which shows no progress.
+fn feed_of<'a, R>(
+    rt: &'a R,
+    alloc: Global,
+    words: &'a PublishWords<'_>,
+    supply: Supply,
+    watch: &'a Watch,
+    start: Instant,
+) -> Feed<'a, R> {
+    Feed {
+        rt,
+        alloc,
+        start,
+        watch,
+        topic: &words.topic,
+        qos: words.common.qos,
+        retain: words.retain,
+        supply,
+        delay: words.delay,
+        is_watched: false,
+        taken: 0,
+        due: 0,
+        shown: 0,
+    }
+}
+
+// Publishes with a session file or without one.
+fn publish_over<R: Net + Clock + Eprint + Files<File = File>>(
+    alloc: Global,
+    setup: &Setup,
+    words: &PublishWords<'_>,
+    session: &Option<Session<'_, R>>,
+    link: &mut Link<'_, R>,
+    feed: &mut Feed<'_, R>,
+) -> Result<(Tally, Result<(), RunError>), OptionFault> {
+    match session {
+        Some(session) => {
+            let plan = plan_of(words, session.is_there());
+            publish_kept(alloc, setup, session, link, feed, plan)
+        }
+        None => publish_plain(alloc, setup, link, feed, plan_of(words, false)),
+    }
+}
+
+// Says why it stopped early. Returns the status.
+fn report<R: Net + Clock + Eprint + Files<File = File>>(
+    rt: &R,
+    words: &PublishWords<'_>,
+    session: &Option<Session<'_, R>>,
+    link: &Link<'_, R>,
+    ended: Result<(Tally, Result<(), RunError>), OptionFault>,
+) -> Result<u8, OptionFault> {
+    let (tally, end) = ended?;
+    let common = &words.common;
+    if let (Err(error), false) = (end, common.quiet) {
+        let session = match session {
+            Some(session) => Some(session.name.as_str()),
+            None => None,
+        };
+        let place = link.place("pub", common, session);
+        tell_end(rt, &place, error, Work::Published(tally, common.qos));
+    }
+    Ok(status_of(end))
+}
+
 // Publishes with a session file or without one, and says why it stopped early.
 fn publish_as<R>(
     rt: &R,
@@ -220,59 +285,35 @@ where
         return Err(no_clock(alloc));
     };
     let watch = Watch::new();
-    let mut link = Link {
-        rt,
-        alloc,
-        host: common.address.host.as_str(),
-        port: common.address.port,
-        watch: &watch,
-        start,
-        patience: patience_of(common.keep_alive),
-        is_traced: common.debug,
-        failure: None,
-    };
-    let mut feed = Feed {
-        rt,
-        alloc,
-        start,
-        watch: &watch,
-        topic: &words.topic,
-        qos: common.qos,
-        retain: words.retain,
-        supply,
-        delay: words.delay,
-        is_watched: is_watched && !common.quiet,
-        taken: 0,
-        due: 0,
-        shown: 0,
-    };
-    let (tally, end) = match session {
-        Some(session) => {
-            let plan = plan_of(words, session.is_there());
-            publish_kept(alloc, &setup, session, &mut link, &mut feed, plan)?
-        }
-        None => publish_plain(alloc, &setup, &mut link, &mut feed, plan_of(words, false))?,
-    };
+    let mut link = Link::new(rt, alloc, common, &watch, start);
+    let mut feed = feed_of(rt, alloc, words, supply, &watch, start);
+    feed.is_watched = is_watched && !common.quiet;
+    // No `?` here: each one would drop link, source and setup, which makes the proof long.
+    let ended = publish_over(alloc, &setup, words, session, &mut link, &mut feed);
     feed.end_progress();
-    if let (Err(error), false) = (end, common.quiet) {
-        let place = Place {
-            command: "pub",
-            host: link.host,
-            port: link.port,
-            failure: link.failure,
-            session: match session {
-                Some(session) => Some(session.name.as_str()),
-                None => None,
-            },
-            has_user: common.address.user.is_some(),
-            retries: common.longest_wait.is_some(),
-        };
-        tell_end(rt, &place, error, Work::Published(tally, common.qos));
-    }
-    Ok(status_of(end))
+    report(rt, words, session, &link, ended)
 }
 
-// Publishes as the client of the options.
+// Publishes as the client of the options or of the session.
+fn publish_named<R>(
+    rt: &R,
+    alloc: Global,
+    words: &PublishWords<'_>,
+    session: &Option<Session<'_, R>>,
+    is_watched: bool,
+) -> Result<u8, OptionFault>
+where
+    R: Net + Clock + Files<File = File> + Input + Eprint + RandomSource,
+{
+    let saved = match session {
+        Some(session) => session.client_id()?,
+        None => None,
+    };
+    let id = identifier(rt, alloc, "pub", &words.common, saved.as_ref())?;
+    publish_as(rt, alloc, words, session, id, is_watched)
+}
+
+// Publishes with the session file of the options, or without one.
 fn publish_from<R>(
     rt: &R,
     alloc: Global,
@@ -282,16 +323,11 @@ fn publish_from<R>(
 where
     R: Net + Clock + Files<File = File> + Input + Eprint + RandomSource,
 {
-    let common = &words.common;
-    let Some(name) = &common.session else {
-        let id = identifier(rt, alloc, "pub", common, None)?;
-        return publish_as(rt, alloc, words, &None, id, is_watched);
+    let Some(name) = &words.common.session else {
+        return publish_named(rt, alloc, words, &None, is_watched);
     };
-    let session = Session::open(rt, alloc, name.as_str())?;
-    let saved = session.client_id()?;
-    let id = identifier(rt, alloc, "pub", common, saved.as_ref())?;
-    let session = Some(session);
-    let status = publish_as(rt, alloc, words, &session, id, is_watched);
+    let session = Some(Session::open(rt, alloc, name.as_str())?);
+    let status = publish_named(rt, alloc, words, &session, is_watched);
     if let Some(session) = session {
         session.close();
     }

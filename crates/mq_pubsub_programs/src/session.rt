@@ -41,8 +41,52 @@ fn unmarked(alloc: Global, bytes: Vec<u8>) -> Result<(Vec<u8>, bool), OptionFaul
     }
 }
 
+// Takes the lock of the session in a file, which the user knows by this name.
+fn lock_of<'a, R: Files<File = File>>(
+    rt: &'a R,
+    alloc: Global,
+    name: &str,
+    linked: &str,
+) -> Result<SessionLock<'a, R>, OptionFault> {
+    match SessionLock::take(rt, alloc, linked) {
+        Ok(Some(lock)) => Ok(lock),
+        Ok(None) => {
+            let advice = "wait for that run to end, or name another file";
+            Err(fault(alloc, name, "is used by another run", advice))
+        }
+        Err(_) => {
+            let advice = "check that its folder can be written";
+            Err(fault(alloc, name, "cannot be locked", advice))
+        }
+    }
+}
+
+// The form of the session in a file, if there is one, and whether the file says that it is lost.
+fn form_of<R: Files<File = File>>(
+    rt: &R,
+    alloc: Global,
+    name: &str,
+    linked: &str,
+) -> Result<(Option<Vec<u8>>, bool), OptionFault> {
+    match SystemDisk(rt).read(alloc, linked) {
+        Ok(Some(bytes)) => {
+            let (form, is_lost) = unmarked(alloc, bytes)?;
+            Ok((Some(form), is_lost))
+        }
+        Ok(None) => Ok((None, false)),
+        Err(error) => match error.kind() {
+            ErrorKind::OutOfMemory => Err(OptionFault::Memory),
+            _ => {
+                let advice = "check its name and its rights";
+                Err(fault(alloc, name, "cannot be read", advice))
+            }
+        },
+    }
+}
+
 impl<'a, R: Files<File = File>> Session<'a, R> {
-    /// The session in the file of this name, if there is one.
+    /// The session in the file of this name, if there is one. The run must `close` it, also after
+    /// an error.
     pub(crate) fn open(
         rt: &'a R,
         alloc: Global,
@@ -51,44 +95,21 @@ impl<'a, R: Files<File = File>> Session<'a, R> {
         let Ok(linked) = linked_name(rt, alloc, name) else {
             return Err(fault(alloc, name, "cannot be used", "check its name"));
         };
-        let lock = match SessionLock::take(rt, alloc, linked.as_str()) {
-            Ok(Some(lock)) => lock,
-            Ok(None) => {
-                let advice = "wait for that run to end, or name another file";
-                return Err(fault(alloc, name, "is used by another run", advice));
-            }
-            Err(_) => {
-                let advice = "check that its folder can be written";
-                return Err(fault(alloc, name, "cannot be locked", advice));
-            }
-        };
-        let (form, is_lost) = match SystemDisk(rt).read(alloc, linked.as_str()) {
-            Ok(Some(bytes)) => {
-                let (form, is_lost) = unmarked(alloc, bytes)?;
-                (Some(form), is_lost)
-            }
-            Ok(None) => (None, false),
-            Err(error) => {
+        let lock = lock_of(rt, alloc, name, linked.as_str())?;
+        match form_of(rt, alloc, name, linked.as_str()) {
+            Ok((form, is_lost)) => Ok(Session {
+                rt,
+                alloc,
+                name: linked,
+                lock,
+                form,
+                is_lost,
+            }),
+            Err(fault) => {
                 lock.release();
-                if error.kind() == ErrorKind::OutOfMemory {
-                    return Err(OptionFault::Memory);
-                }
-                return Err(fault(
-                    alloc,
-                    name,
-                    "cannot be read",
-                    "check its name and its rights",
-                ));
+                Err(fault)
             }
-        };
-        Ok(Session {
-            rt,
-            alloc,
-            name: linked,
-            lock,
-            form,
-            is_lost,
-        })
+        }
     }
 
     /// The file has a session.

@@ -1,7 +1,7 @@
 //! The command `mqtt sub`.
 
-use crate::common::{defaults_of, identifier, patience_of, setup_of};
-use crate::explain::{Place, Work, status_of, tell_end};
+use crate::common::{defaults_of, identifier, setup_of};
+use crate::explain::{Work, status_of, tell_end};
 use crate::link::{Link, PacketLink};
 use crate::printing::Lines;
 use crate::session::{Session, no_clock};
@@ -69,6 +69,52 @@ fn given_up_of(
     })
 }
 
+// The options of a run.
+fn options_of<'a>(
+    words: &'a SubscribeWords,
+    requests: Option<&'a NonEmpty<Request>>,
+    given_up: Option<&'a NonEmpty<TopicFilter>>,
+) -> SubscribeOptions<'a> {
+    let common = &words.common;
+    SubscribeOptions {
+        requests,
+        given_up,
+        choice: Choice {
+            skips_retained: words.skips_retained,
+            only_retained: words.only_retained,
+            excluded: words.excluded.as_slice(),
+        },
+        count: words.count,
+        ends_when_granted: words.ends_when_granted,
+        clean: !common.keeps,
+        retry: Retry {
+            longest_wait: common.longest_wait,
+            deadline: common.timeout,
+        },
+    }
+}
+
+// The printer of the messages.
+fn lines_of<'a, R>(
+    rt: &'a R,
+    alloc: Global,
+    words: &'a SubscribeWords,
+    requests: Option<&'a NonEmpty<Request>>,
+) -> Lines<'a, R> {
+    Lines {
+        rt,
+        alloc,
+        style: &words.style,
+        has_line_end: words.has_line_end,
+        requests: match requests {
+            Some(requests) => requests.as_slice(),
+            None => &[],
+        },
+        is_quiet: words.common.quiet,
+        printed: 0,
+    }
+}
+
 // Subscribes with a session file or without one.
 fn subscribe_with<R: Net + Clock + Print + Eprint + Files<File = File>>(
     alloc: Global,
@@ -119,79 +165,49 @@ where
         return Err(no_clock(alloc));
     };
     let watch = Watch::new();
-    let mut link = Link {
-        rt,
-        alloc,
-        host: common.address.host.as_str(),
-        port: common.address.port,
-        watch: &watch,
-        start,
-        patience: patience_of(common.keep_alive),
-        is_traced: common.debug,
-        failure: None,
-    };
-    let options = SubscribeOptions {
-        requests: requests.as_ref(),
-        given_up: given_up.as_ref(),
-        choice: Choice {
-            skips_retained: words.skips_retained,
-            only_retained: words.only_retained,
-            excluded: words.excluded.as_slice(),
-        },
-        count: words.count,
-        ends_when_granted: words.ends_when_granted,
-        clean: !common.keeps,
-        retry: Retry {
-            longest_wait: common.longest_wait,
-            deadline: common.timeout,
-        },
-    };
-    let mut printer = Lines {
-        rt,
-        alloc,
-        style: &words.style,
-        has_line_end: words.has_line_end,
-        requests: match &requests {
-            Some(requests) => requests.as_slice(),
-            None => &[],
-        },
-        is_quiet: common.quiet,
-        printed: 0,
-    };
+    let mut link = Link::new(rt, alloc, common, &watch, start);
+    let options = options_of(words, requests.as_ref(), given_up.as_ref());
+    let mut printer = lines_of(rt, alloc, words, requests.as_ref());
     let end = subscribe_with(alloc, &setup, session, &mut link, &options, &mut printer)?;
     if let (Err(error), false) = (end, common.quiet) {
-        let place = Place {
-            command: "sub",
-            host: link.host,
-            port: link.port,
-            failure: link.failure,
-            session: match session {
-                Some(session) => Some(session.name.as_str()),
-                None => None,
-            },
-            has_user: common.address.user.is_some(),
-            retries: common.longest_wait.is_some(),
+        let session = match session {
+            Some(session) => Some(session.name.as_str()),
+            None => None,
         };
+        let place = link.place("sub", common, session);
         tell_end(rt, &place, error, Work::Printed(printer.printed));
     }
     Ok(status_of(end))
 }
 
-// Subscribes as the client of the options.
+// Subscribes as the client of the options or of the session.
+fn subscribe_named<R>(
+    rt: &R,
+    alloc: Global,
+    words: &SubscribeWords,
+    session: &Option<Session<'_, R>>,
+) -> Result<u8, OptionFault>
+where
+    R: Net + Clock + Files<File = File> + Print + Eprint + RandomSource,
+{
+    let saved = match session {
+        Some(session) => session.client_id()?,
+        None => None,
+    };
+    let id = identifier(rt, alloc, "sub", &words.common, saved.as_ref())?;
+    subscribe_as(rt, alloc, words, session, id)
+}
+
+// Subscribes with the session file of the options, or without one.
 fn subscribe_from<R>(rt: &R, alloc: Global, words: &SubscribeWords) -> Result<u8, OptionFault>
 where
     R: Net + Clock + Files<File = File> + Print + Eprint + RandomSource,
 {
-    let common = &words.common;
-    let Some(name) = &common.session else {
-        let id = identifier(rt, alloc, "sub", common, None)?;
-        return subscribe_as(rt, alloc, words, &None, id);
+    let Some(name) = &words.common.session else {
+        return subscribe_named(rt, alloc, words, &None);
     };
-    let session = Session::open(rt, alloc, name.as_str())?;
-    let saved = session.client_id()?;
-    let id = identifier(rt, alloc, "sub", common, saved.as_ref())?;
-    let session = Some(session);
-    let status = subscribe_as(rt, alloc, words, &session, id);
+    let session = Some(Session::open(rt, alloc, name.as_str())?);
+    let status = subscribe_named(rt, alloc, words, &session);
     if let Some(session) = session {
         session.close();
     }

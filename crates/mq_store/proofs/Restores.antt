@@ -1,5 +1,5 @@
 -- A broker that is restored from files, one after another.
-use Rattle.std.proofs.Common.{◌≡◌, ℕ, ◌+◌, ◌<◌, arith, List, [], ◌∷◌, ◌++◌, length, take, get_or, Vec, refl, sym, ap, ◌∙◌, subst, length-append}
+use Rattle.std.proofs.Common.{◌≡◌, ℕ, ◌+◌, ◌<◌, arith, List, [], ◌∷◌, ◌++◌, length, take, get_or, Vec, refl, sym, ap, ◌∙◌, subst, length-append, Result, Ok, Err, IfOk}
 use Rattle.std.proofs.lemmas.Grind.{flat_map-append}
 use Rattle.std.proofs.lemmas.List.{append-nil}
 use Rattle.std.specs.List.{flat_map}
@@ -12,7 +12,11 @@ use Rattle.mq_durable.specs.Replaying.{Replays}
 use Rattle.mq_durable.proofs.Entries.{of_none}
 use Rattle.mq_durable.proofs.Recoveries.{Entry, in_all_push, in_none}
 use Rattle.mq_durable.proofs.Runs.{replays_all, replays_none}
-use Rattle.mq_store.specs.Restoring.{IsRestored, events_of_all}
+use Rattle.mq_durable.specs.State.{DurableState}
+use Rattle.mq_file.specs.declared.journal_file.JournalFile.{JournalFile}
+use Rattle.mq_file.specs.Files.{calls_of}
+use Rattle.mq_file.specs.History.{seen_after}
+use Rattle.mq_store.specs.Restoring.{IsOpened, IsRestored, IsResumed, events_of_all}
 
 -- ---- the number of events
 
@@ -63,3 +67,19 @@ restored_more old hub new count more file first replays clock counted =
 
 pub no_events : (file : List ℕ) → file ≡ at_rest [] → events_of file ≡ []
 no_events file is = ap events_of is ∙ of_none (at_rest []) refl
+
+-- ---- the store
+
+pub opened : {S E : Type 0} (r : Result S E) (durable : S → DurableState JournalFile) (events clock : S → ℕ) (begun restored : HubState) (count : ℕ)
+    → IsRestored begun restored count
+    → IfOk r (λ s. IsResumed (λ file. seen_after (calls_of file)) restored (durable s))
+    → IfOk r (λ s. events s ≡ count) → IfOk r (λ s. clock s ≡ restored.clock)
+    → IfOk r (λ s. IsOpened begun (durable s) (events s) (clock s))
+opened (Ok s) durable events clock begun restored count first resumed counted timed =
+    record {
+      restored = restored;
+      is_restored = subst (λ (n : ℕ). IsRestored begun restored n) (sym counted) first;
+      is_resumed = resumed;
+      clock_is = timed;
+    }
+opened (Err e) durable events clock begun restored count first resumed counted timed = tt

@@ -1,8 +1,10 @@
 //! Opening a store.
 
-ghost use Rattle.std.specs.Prelude.{◌<◌, IfOk, IfSome};
+ghost use Rattle.std.specs.Prelude.{◌≡◌, ◌<◌, [], IfOk, IfSome};
+ghost use Rattle.mq_file.specs.Files.{calls_of};
+ghost use Rattle.mq_file.specs.History.{seen_after};
 ghost use Rattle.mq_route.specs.Hub.{new_hub};
-ghost use Rattle.mq_store.specs.Restoring.{IsOpened, IsRestored};
+ghost use Rattle.mq_store.specs.Restoring.{IsOpened, IsRestored, IsResumed};
 
 use crate::configuration::{check_digest, check_ends, digest_of, split_owner};
 use crate::fault::StoreError;
@@ -124,6 +126,67 @@ fn replay_all<R: Files<File = File>>(
     Err(StoreError::TooLong)
 }
 
+// Checks that no file of the journal is missing, notes the ends of its files, and begins the next
+// one, whose name is then durable.
+fn next_file<R: Files<File = File>>(
+    rt: &R,
+    alloc: Global,
+    folder: &Folder,
+    path: &str,
+    known: &[u8],
+    ends: &[u8],
+    nth: u64,
+    keep: Keep,
+) -> Result<JournalFile, StoreError>
+    ensures { IfOk result (λ file. calls_of file ≡ []) }
+{
+    let behind = file_name(alloc, path, nth.saturating_add(1))?;
+    if has_file(rt, behind.as_str())? {
+        return Err(StoreError::Gap);
+    }
+    note_ends(rt, alloc, folder, path, known, ends)?;
+    let name = file_name(alloc, path, nth)?;
+    let Ok(file) = JournalFile::create(rt, name.as_str(), keep) else {
+        return Err(StoreError::Unwritten);
+    };
+    folder.sync()?;
+    Ok(file)
+}
+
+// Resumes the restored broker with the next file, or drops it if there is none.
+fn resume_in(
+    folder: Folder,
+    replayed: Replayed,
+    file: Result<JournalFile, StoreError>,
+) -> Result<Store, StoreError>
+    requires empty { IfOk file (λ file. calls_of file ≡ []) }
+    ensures resumed { IfOk result (λ store.
+        IsResumed (λ file. seen_after (calls_of file)) replayed.recovery store.durable) }
+    ensures events { IfOk result (λ store. store.events ≡ replayed.events) }
+    ensures clock { IfOk result (λ store. store.clock ≡ replayed.recovery.clock) }
+{
+    let Replayed {
+        recovery,
+        events,
+        ..
+    } = replayed;
+    let file = match file {
+        Ok(file) => file,
+        Err(error) => {
+            drop(recovery);
+            return Err(error);
+        }
+    };
+    let clock = recovery.clock();
+    let durable = resume(recovery, file)?;
+    Ok(Store {
+        durable,
+        folder,
+        clock,
+        events,
+    })
+}
+
 /// Opens the store in a folder, and restores its broker. The connections of the broker have ended.
 ///
 /// The files `journal.1`, `journal.2` and so on have the events, in order. Each start begins a new
@@ -145,27 +208,8 @@ pub fn open_store<R: Files<File = File>>(
     let folder = Folder::open(rt, alloc, path)?;
     let known = claim(rt, alloc, &folder, path, &config)?;
     let (replayed, nth) = replay_all(rt, alloc, path, config)?;
-    let behind = file_name(alloc, path, nth.saturating_add(1))?;
-    if has_file(rt, behind.as_str())? {
-        return Err(StoreError::Gap);
-    }
-    let Replayed {
-        recovery,
-        events,
-        ends,
-    } = replayed;
-    note_ends(rt, alloc, &folder, path, known.as_slice(), ends.as_slice())?;
-    let name = file_name(alloc, path, nth)?;
-    let Ok(disk) = JournalFile::create(rt, name.as_str(), keep) else {
-        return Err(StoreError::Unwritten);
-    };
-    let clock = recovery.clock();
-    let durable = resume(recovery, disk)?;
-    folder.sync()?;
-    Ok(Store {
-        durable,
-        folder,
-        clock,
-        events,
-    })
+    // No `?` here: each one would drop the broker, which makes the proof long.
+    let ends = replayed.ends.as_slice();
+    let file = next_file(rt, alloc, &folder, path, known.as_slice(), ends, nth, keep);
+    resume_in(folder, replayed, file)
 }

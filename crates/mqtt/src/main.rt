@@ -1,6 +1,9 @@
 //! The program `mqtt`: it does the job that its words ask for, and prints to the standard output.
 #![tactic(auto)]
 
+mod described;
+
+use crate::described::{print_manual, print_script};
 use mq_cli::{
     Command, Draw, Failure, Fallible, Job, Source, WordsFault, exit_status, job, perform,
     perform_file,
@@ -79,15 +82,15 @@ fn run_drawn(rt: &HostRuntime, draw: Draw<'_>) -> Result<u8, Failure> {
     Ok(status)
 }
 
-/// Runs `pub` or `sub`, whose options differ from those of the other commands. Returns the exit
-/// status, or `None` for another command.
+/// Runs `pub` or `sub`, whose options differ from those of the other commands, or prints the help
+/// of one. Returns the exit status, or `None` for another command.
 fn run_familiar(rt: &HostRuntime, words: &[&str]) -> Option<u8> {
-    let [_, command, rest @ ..] = words else {
-        return None;
-    };
-    match *command {
-        "pub" => Some(run_pub(rt, rt.alloc(), rest, rt.stderr().is_terminal())),
-        "sub" => Some(run_sub(rt, rt.alloc(), rest)),
+    let alloc = rt.alloc();
+    match words {
+        [_, "pub", rest @ ..] => Some(run_pub(rt, alloc, rest, rt.stderr().is_terminal())),
+        [_, "sub", rest @ ..] => Some(run_sub(rt, alloc, rest)),
+        [_, "help", "pub"] => Some(run_pub(rt, alloc, &["--help"], false)),
+        [_, "help", "sub"] => Some(run_sub(rt, alloc, &["--help"])),
         _ => None,
     }
 }
@@ -125,6 +128,8 @@ where
         }
         Ok(Command::Loopback(source)) => run_looped(rt, host, source),
         Ok(Command::Draw(draw)) => run_drawn(rt, draw),
+        Ok(Command::Completion) => print_script(rt),
+        Ok(Command::Manual) => print_manual(rt),
         Ok(client) => run_buffered(rt, &client),
         Err(WordsFault::Words(error)) => {
             error.print(rt)?;

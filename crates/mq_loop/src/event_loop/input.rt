@@ -26,6 +26,23 @@ const LARGE_READ: usize = 16_384;
 /// The part of a connection's share that an act uses, in bytes.
 const ACT: usize = 16;
 
+/// The number of payload bytes for which a copy uses one byte of its publisher's share. So a round
+/// writes much output before the processor's cache has lost it.
+const PLACED: usize = 8;
+
+// The part of a connection's share that the acts of a step use, in bytes.
+fn share_of(acts: &[Act]) -> usize {
+    let mut share: usize = 0;
+    for act in acts {
+        let bytes = match act {
+            Act::Placed(_, message) => message.payload.as_slice().len() / PLACED,
+            _ => 0,
+        };
+        share = share.saturating_add(bytes.max(ACT));
+    }
+    share
+}
+
 impl<B: Broker + Drop, S: Socket + Drop, O: Observer + Drop> EventLoop<B, S, O> {
     // Reads from each connection that is ready, oldest first.
     pub(super) fn hear_all(&mut self, buffer: &mut [u8])
@@ -193,14 +210,14 @@ impl<B: Broker + Drop, S: Socket + Drop, O: Observer + Drop> EventLoop<B, S, O> 
                 if is_fresh && count <= buffer.len() {
                     self.report_client(place, &reply, &buffer[..count]);
                 }
-                self.note_read(place, count, buffer.len(), reply.acts.as_slice().len())
+                self.note_read(place, count, buffer.len(), share_of(reply.acts.as_slice()))
             }
         }
     }
 
-    // Notes a read. Returns how much of the share was used, or `None` if nothing more is to be read
-    // now.
-    fn note_read(&mut self, place: u32, count: usize, size: usize, acts: usize) -> Option<usize>
+    // Notes a read, whose acts used this part of the share. Returns how much of the share was used,
+    // or `None` if nothing more is to be read now.
+    fn note_read(&mut self, place: u32, count: usize, size: usize, used: usize) -> Option<usize>
         ensures { self.new ≡ self.old }
     {
         self.observer.on_read(count);
@@ -217,7 +234,7 @@ impl<B: Broker + Drop, S: Socket + Drop, O: Observer + Drop> EventLoop<B, S, O> 
             self.note_empty(place);
             return None;
         }
-        Some(count.max(acts.saturating_mul(ACT)))
+        Some(count.max(used))
     }
 
     // Reports that a client is connected, if these bytes had its CONNECT.
