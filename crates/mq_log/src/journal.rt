@@ -11,6 +11,8 @@ use std::alloc::{AllocError, Global};
 
 /// A file of at least this length takes no more entries.
 const MAX_LEN: usize = 1 << 60;
+/// The bytes of a block that `closed_block` adds to its entry.
+const BESIDES: usize = 9;
 
 /// A journal that is open for appending.
 #[derive(Drop)]
@@ -47,6 +49,7 @@ fn closed_block(alloc: Global, entry: &[u8]) -> Result<Vec<u8>, AllocError>
     ensures { IfOk result (λ block. block.items ≡ body entry.now ++ 0 ∷ []) }
 {
     let mut block = Vec::new(alloc);
+    block.reserve(entry.len() + BESIDES)?;
     block.extend_from_slice(&(entry.len() as u32).to_be_bytes())?;
     block.extend_from_slice(&checksum(entry).to_be_bytes())?;
     block.extend_from_slice(entry)?;
