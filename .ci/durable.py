@@ -192,6 +192,11 @@ class Paho:
         return bool(self.sent)
 
     def run(self, broker, stop):
+        # If paho 1.6 connects twice without a CONNACK, it forgets that a message was received, and
+        # publishes it once more.
+        for message in self.client._out_messages.values():
+            if message.state == paho.mqtt_ms_resend_pubrel:
+                message.state = paho.mqtt_ms_wait_for_pubcomp
         with contextlib.suppress(OSError):
             self.client.connect("127.0.0.1", broker.port)
             while not stop.is_set() or self.sent:
