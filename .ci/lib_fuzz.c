@@ -1,7 +1,12 @@
 /* Calls the functions over bytes with packets, changed packets and random bytes, each in a block of
  * its exact size, for a number of seconds: lib_fuzz SECONDS [START]. A client takes the same
- * bytes. */
-#include <poskvari.h>
+ * bytes.
+ *
+ * lib_fuzz changed: reads packets from the standard input, a line of hexadecimal digits each.
+ * Blanks don't count, and a line that begins with # is a comment. Each byte is set to each other
+ * value: packets come of it that are written again as the bytes read, then an incomplete packet or
+ * a fault. Cut at any place, each packet is incomplete. */
+#include "lib_encode.h"
 #include <stdio.h>
 #include <stdlib.h>
 #include <string.h>
@@ -26,40 +31,6 @@ static uint32_t random_below(uint32_t most) {
 
 static bool is_within(posk_field field, size_t size) {
     return field.at <= size && field.size <= size - field.at;
-}
-
-static posk_bytes bytes_of(const uint8_t *bytes, posk_field field) {
-    return (posk_bytes){bytes + field.at, field.size};
-}
-
-static ptrdiff_t encode_connect(const uint8_t *bytes, const posk_fields *f, uint8_t *out,
-                                size_t room) {
-    posk_options options = {.id = bytes_of(bytes, f->client_id), .keep_alive = f->keep_alive};
-    options.has_user_name = f->has_user_name;
-    options.user_name = bytes_of(bytes, f->user_name);
-    options.has_password = f->has_password;
-    options.password = bytes_of(bytes, f->password);
-    options.has_will = f->has_will;
-    options.will_topic = bytes_of(bytes, f->topic);
-    options.will_payload = bytes_of(bytes, f->payload);
-    options.will_qos = f->qos;
-    options.will_retain = f->retain;
-    return posk_encode_connect(&options, f->clean_session, out, room);
-}
-
-static ptrdiff_t encode(const uint8_t *bytes, const posk_fields *f, uint8_t *out, size_t room) {
-    switch (f->kind) {
-    case POSK_CONNECT: return encode_connect(bytes, f, out, room);
-    case POSK_CONNACK: return posk_encode_connack(f->session_present, f->code, out, room);
-    case POSK_PUBLISH:
-        return posk_encode_publish(bytes + f->topic.at, f->topic.size, bytes + f->payload.at,
-                                   f->payload.size, f->qos, f->retain, f->dup, f->id, out, room);
-    case POSK_SUBSCRIBE: case POSK_SUBACK: case POSK_UNSUBSCRIBE:
-        return posk_encode_list(f->kind, f->id, bytes + f->list.at, f->list.size, out, room);
-    case POSK_PINGREQ: case POSK_PINGRESP: case POSK_DISCONNECT:
-        return posk_encode_bare(f->kind, out, room);
-    default: return posk_encode_acknowledgement(f->kind, f->id, out, room);
-    }
 }
 
 /* The packet is written again, into a block of its size: the same bytes. */
@@ -230,12 +201,75 @@ static void test_lists(void) {
     CHECK(posk_encode_list(POSK_SUBACK, 0, "\1\x80", 2, out, 16) == POSK_ERROR_ARGUMENT);
 }
 
+/* Finds each packet of the bytes, and writes it again. Returns the number of bytes behind them, or
+ * -1 if those are faulty. */
+static ptrdiff_t read_all(const uint8_t *data, size_t size) {
+    uint8_t *bytes = malloc(size);
+    CHECK(bytes);
+    memcpy(bytes, data, size);
+    posk_fields f;
+    posk_fault fault;
+    size_t at = 0;
+    int code = POSK_OK;
+    while (at < size) {
+        code = posk_packet(bytes + at, size - at, POSK_MAX_PACKET, &f, &fault);
+        if (code != POSK_OK) break;
+        encode_again(bytes + at, &f);
+        at += f.size;
+    }
+    free(bytes);
+    CHECK(code == POSK_OK || code == POSK_MORE || code == POSK_ERROR_MALFORMED);
+    return code == POSK_ERROR_MALFORMED ? -1 : (ptrdiff_t)(size - at);
+}
+
+/* The bytes of a line of digits. Returns their number. */
+static size_t bytes_of_line(const char *line, uint8_t *bytes, size_t room) {
+    static const char digits[] = "0123456789abcdef";
+    size_t count = 0;
+    for (; *line && *line != '\n'; line++) {
+        if (*line == ' ') continue;
+        const char *digit = strchr(digits, *line);
+        CHECK(digit && count / 2 < room);
+        uint8_t high = count % 2 ? bytes[count / 2] : 0;
+        bytes[count / 2] = (uint8_t)(high * 16 + (digit - digits));
+        count++;
+    }
+    CHECK(count % 2 == 0);
+    return count / 2;
+}
+
+static void change_packets(void) {
+    unsigned long packets = 0, changed = 0;
+    char line[256];
+    uint8_t bytes[64];
+    while (fgets(line, sizeof line, stdin)) {
+        if (*line == '#') continue;
+        size_t size = bytes_of_line(line, bytes, sizeof bytes);
+        CHECK(size > 0 && read_all(bytes, size) == 0);
+        for (size_t cut = 1; cut < size; cut++) CHECK(read_all(bytes, cut) == (ptrdiff_t)cut);
+        for (size_t place = 0; place < size; place++) {
+            uint8_t was = bytes[place];
+            for (unsigned more = 1; more < 256; more++, changed++) {
+                bytes[place] = (uint8_t)(was + more);
+                read_all(bytes, size);
+            }
+            bytes[place] = was;
+        }
+        packets++;
+    }
+    printf("%lu packets, %lu changed\n", packets, changed);
+}
+
 int main(int count, char **words) {
     static const char *const seeds[] = {
         "\x10\x23\0\4MQTT\4\xc6\0\x3c\0\2id\0\4gone\0\3bye\0\4name\0\2pw", "\x20\2\1\0",
         "\x3b\x0a\0\3a/b\0\7xyz", "\x40\2\0\7", "\x62\2\0\7", "\x82\x0e\0\7\0\3a/+\1\0\3b/#\2",
         "\x82\x08\0\7\0\3a/+\1", "\xa2\7\0\7\0\3a/+", "\x90\5\0\7\0\1\x80", "\xc0\0", "\xe0\0"};
     static const size_t sizes[] = {37, 4, 12, 4, 4, 16, 10, 9, 7, 2, 2};
+    if (count > 1 && strcmp(words[1], "changed") == 0) {
+        change_packets();
+        return 0;
+    }
     int seconds = count > 1 ? atoi(words[1]) : 10;
     state = count > 2 ? strtoull(words[2], NULL, 10) : 88172645463325252ull;
     time_t end = time(NULL) + seconds;
