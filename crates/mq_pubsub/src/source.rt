@@ -1,9 +1,8 @@
 //! Sources of messages to publish.
 
-ghost use Rattle.std.specs.Prelude.{◌≡◌, List, None, Option, IfOk};
+ghost use Rattle.std.specs.Prelude.{◌≡◌, List, None, Option, true, IfOk};
 ghost use Rattle.mq_packet.specs.declared.message.Message.{Message as Published};
-ghost use Rattle.mq_pubsub.specs.Giving.{messages_of};
-ghost use Rattle.mq_pubsub.specs.Printing.{Shows};
+ghost use Rattle.mq_pubsub.specs.Giving.{Gives, is_end, messages_of};
 
 use crate::error::RunError;
 use mq_packet::Message;
@@ -21,14 +20,20 @@ pub enum Next {
 
 /// A source of messages to publish. It does not wait.
 pub trait Source {
-    /// The messages that it gave, in order, if they are known.
-    ghost given: { Self → Option (List Published) } = { λ _. None };
+    /// The messages that are to come, in order, if they are known.
+    ghost coming: { Self → Option (List Published) } = { λ _. None };
+
+    /// It has no message any more.
+    ghost ended: { Self → Type 0 };
 
     /// The next message, if there is one now.
     fn next(&mut self) -> Result<Next, RunError>
-        ensures { IfOk result (λ next. Shows (given self.old) (given self.new) (messages_of next)) };
+        ensures gives { IfOk result
+            (λ next. Gives (coming self.old) (coming self.new) (messages_of next)) }
+        ensures ends { IfOk result (λ next. is_end next ≡ true → ended self.new) };
 
     /// Reports how many messages are acknowledged or written, of how many that were taken.
     fn report(&mut self, done: u64, taken: u64)
-        ensures { given self.new ≡ given self.old };
+        ensures gives { coming self.new ≡ coming self.old }
+        ensures ends { ended self.old → ended self.new };
 }

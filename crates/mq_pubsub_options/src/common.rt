@@ -1,8 +1,8 @@
 //! The options that both commands have.
 
 ghost use Rattle.std.specs.Prelude.{codes, IfOk};
-ghost use Rattle.clap.specs.Words.{first_value, found_of};
-ghost use Rattle.mq_pubsub_options.specs.Options.{IsCommon, IsLongestWait, IsWillOf};
+ghost use Rattle.clap.specs.Words.{first_value, found_of, one_text};
+ghost use Rattle.mq_pubsub_options.specs.Options.{IsCommon, IsLongestWait, IsNumberOr, IsWillOf};
 
 use crate::address::{Address, Defaults, address_of};
 use crate::fault::OptionFault;
@@ -101,6 +101,14 @@ fn longest_wait_of(alloc: Global, matches: &ArgMatches<'_>) -> Result<Option<u64
     }
 }
 
+// The keep-alive in seconds.
+fn keep_alive_of(matches: &ArgMatches<'_>) -> u16
+    ensures { IsNumberOr 60 16 (one_text (found_of matches.now) (codes "KEEP_ALIVE")) result }
+{
+    let keep_alive: Option<u16> = matches.get_one("KEEP_ALIVE");
+    keep_alive.unwrap_or(KEEP_ALIVE)
+}
+
 /// The options that both commands have.
 pub(crate) fn common_of(
     alloc: Global,
@@ -111,7 +119,6 @@ pub(crate) fn common_of(
 {
     let address = address_of(alloc, matches, defaults)?;
     let session = owned(alloc, matches, "SESSION")?;
-    let keep_alive: Option<u16> = matches.get_one("KEEP_ALIVE");
     let will = will_of(alloc, matches)?;
     let timeout = duration_of(alloc, matches, "TIMEOUT", "-W")?;
     let longest_wait = longest_wait_of(alloc, matches)?;
@@ -121,7 +128,7 @@ pub(crate) fn common_of(
         id: owned(alloc, matches, "ID")?,
         keeps: session.is_some() || flag_of(matches, "KEEP"),
         session,
-        keep_alive: keep_alive.unwrap_or(KEEP_ALIVE),
+        keep_alive: keep_alive_of(matches),
         will,
         qos: qos_of(matches, "QOS"),
         debug: flag_of(matches, "DEBUG"),

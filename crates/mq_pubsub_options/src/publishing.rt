@@ -1,9 +1,9 @@
 //! The arguments of `mqtt pub`.
 
 ghost use Rattle.std.specs.Prelude.{◌≡◌, codes, map, option_map, string_bytes, IfOk};
-ghost use Rattle.clap.specs.Words.{first_value, found_of};
+ghost use Rattle.clap.specs.Words.{first_value, found_of, one_text};
 ghost use Rattle.clap.specs.declared.parser.matches.Found.{Found};
-ghost use Rattle.mq_pubsub_options.specs.Options.{IsKind, IsPublish, IsTopicOf};
+ghost use Rattle.mq_pubsub_options.specs.Options.{ArePayloads, IsCommon, IsDelay, IsFlag, IsKind, IsNumberOr, IsPublish, IsTopicOf};
 
 use crate::address::Defaults;
 use crate::common::{Common, common_of};
@@ -75,6 +75,20 @@ fn payloads_of<'a>(
     }
 }
 
+// The payloads in the options.
+fn payloads_in<'a>(alloc: Global, matches: &ArgMatches<'a>) -> Result<Payloads<'a>, OptionFault>
+    ensures { IfOk result (ArePayloads (found_of matches.now)) }
+{
+    payloads_of(
+        alloc,
+        all_of(alloc, matches, "TEXT")?,
+        matches.get_str("FILE"),
+        flag_of(matches, "WHOLE"),
+        flag_of(matches, "LINES"),
+        flag_of(matches, "EMPTY"),
+    )
+}
+
 // The topic of `-t`, or of `-L`.
 fn topic_of(
     alloc: Global,
@@ -93,6 +107,68 @@ fn topic_of(
     }
 }
 
+// The number of times that the payloads are published.
+fn repeat_of(matches: &ArgMatches<'_>) -> u32
+    ensures { IsNumberOr 1 32 (one_text (found_of matches.now) (codes "REPEAT")) result }
+{
+    let repeat: Option<u32> = matches.get_one("REPEAT");
+    repeat.unwrap_or(1)
+}
+
+// The options that `sub` does not have.
+#[derive(Drop)]
+struct Own<'a> {
+    payloads: Payloads<'a>,
+    retain: bool,
+    repeat: u32,
+    delay: u64,
+}
+
+fn own_of<'a>(alloc: Global, matches: &ArgMatches<'a>) -> Result<Own<'a>, OptionFault>
+    ensures payloads { IfOk result (λ own. ArePayloads (found_of matches.now) own.payloads) }
+    ensures retain { IfOk result
+        (λ own. IsFlag (one_text (found_of matches.now) (codes "RETAIN")) own.retain) }
+    ensures repeat { IfOk result
+        (λ own. IsNumberOr 1 32 (one_text (found_of matches.now) (codes "REPEAT")) own.repeat) }
+    ensures delay { IfOk result
+        (λ own. IsDelay (first_value (found_of matches.now) (codes "DELAY")) own.delay) }
+{
+    let payloads = payloads_in(alloc, matches)?;
+    let delay = duration_of(alloc, matches, "DELAY", "--delay")?;
+    Ok(Own {
+        payloads,
+        retain: flag_of(matches, "RETAIN"),
+        repeat: repeat_of(matches),
+        delay: delay.unwrap_or(0),
+    })
+}
+
+// The arguments with these options of both commands.
+fn with_common<'a>(
+    alloc: Global,
+    matches: &ArgMatches<'a>,
+    common: Common,
+) -> Result<PublishWords<'a>, OptionFault>
+    requires { IsCommon (found_of matches.now) common }
+    ensures { IfOk result (IsPublish (found_of matches.now)) }
+{
+    let topic = topic_of(alloc, matches, &common)?;
+    let Own {
+        payloads,
+        retain,
+        repeat,
+        delay,
+    } = own_of(alloc, matches)?;
+    Ok(PublishWords {
+        common,
+        topic,
+        payloads,
+        retain,
+        repeat,
+        delay,
+    })
+}
+
 // The arguments that the parser matched.
 fn matched<'a>(
     alloc: Global,
@@ -102,25 +178,7 @@ fn matched<'a>(
     ensures { IfOk result (IsPublish (found_of matches.now)) }
 {
     let common = common_of(alloc, matches, defaults)?;
-    let topic = topic_of(alloc, matches, &common)?;
-    let payloads = payloads_of(
-        alloc,
-        all_of(alloc, matches, "TEXT")?,
-        matches.get_str("FILE"),
-        flag_of(matches, "WHOLE"),
-        flag_of(matches, "LINES"),
-        flag_of(matches, "EMPTY"),
-    )?;
-    let repeat: Option<u32> = matches.get_one("REPEAT");
-    let delay = duration_of(alloc, matches, "DELAY", "--delay")?;
-    Ok(PublishWords {
-        common,
-        topic,
-        payloads,
-        retain: flag_of(matches, "RETAIN"),
-        repeat: repeat.unwrap_or(1),
-        delay: delay.unwrap_or(0),
-    })
+    with_common(alloc, matches, common)
 }
 
 /// Reads the arguments of `mqtt pub`, without the name of the program and of the command.

@@ -1,9 +1,9 @@
 //! The arguments of `mqtt sub`.
 
 ghost use Rattle.std.specs.Prelude.{◌≡◌, codes, option_map, string_bytes, IfOk};
-ghost use Rattle.clap.specs.Words.{found_of};
+ghost use Rattle.clap.specs.Words.{first_value, found_of, one_text};
 ghost use Rattle.clap.specs.declared.parser.matches.Found.{Found};
-ghost use Rattle.mq_pubsub_options.specs.Options.{IsSubscribe, filters_of, texts_of};
+ghost use Rattle.mq_pubsub_options.specs.Options.{AreFilters, IsCommon, IsNumber, IsPrinted, IsRetained, IsStyle, IsSubscribe, filters_of, texts_of};
 
 use crate::address::Defaults;
 use crate::common::{Common, common_of};
@@ -54,19 +54,30 @@ fn bad_format(alloc: Global, text: &str, fault: FormatFault) -> OptionFault {
     }
 }
 
-// The style in the options.
-fn style_of(alloc: Global, matches: &ArgMatches<'_>) -> Result<Style, OptionFault> {
-    match matches.get_str("FORMAT") {
-        Some(text) => match Format::parse(alloc, text) {
-            Ok(format) => Ok(Style::Format(format)),
-            Err(fault) => Err(bad_format(alloc, text, fault)),
-        },
-        None => Ok(if matches.get_flag("VERBOSE") {
+// The style of a format, or of `-v` without one.
+fn style_of(alloc: Global, format: Option<&str>, verbose: bool) -> Result<Style, OptionFault>
+    ensures { IfOk result (IsStyle (option_map (λ text. text.now) format.entry) verbose) }
+{
+    let Some(text) = format else {
+        return Ok(if verbose {
             Style::Verbose
         } else {
             Style::Payload
-        }),
+        });
+    };
+    match Format::parse(alloc, text) {
+        Ok(format) => Ok(Style::Format(format)),
+        Err(fault) => Err(bad_format(alloc, text, fault)),
     }
+}
+
+// How messages are printed, and whether a line end follows each.
+fn printed_of(alloc: Global, matches: &ArgMatches<'_>) -> Result<(Style, bool), OptionFault>
+    ensures { IfOk result (λ printed. IsPrinted (found_of matches.now) printed.0 printed.1) }
+{
+    let (verbose, bare) = (flag_of(matches, "VERBOSE"), flag_of(matches, "BARE"));
+    let style = style_of(alloc, matches.get_str("FORMAT"), verbose)?;
+    Ok((style, !bare))
 }
 
 // The filters of `-t`, or the one of `-L`.
@@ -91,6 +102,122 @@ fn topics_of(
     Ok(filters)
 }
 
+// The filters to subscribe to and to unsubscribe from.
+#[derive(Drop)]
+struct Filters {
+    filters: Vec<TopicFilter>,
+    given_up: Vec<TopicFilter>,
+}
+
+fn filters_in(
+    alloc: Global,
+    matches: &ArgMatches<'_>,
+    common: &Common,
+) -> Result<Filters, OptionFault>
+    ensures { IfOk result (λ both. AreFilters (found_of matches.now)
+        (option_map string_bytes common.now.address.topic)
+        both.filters.items both.given_up.items) }
+{
+    let filters = topics_of(alloc, matches, common)?;
+    let texts = all_of(alloc, matches, "GIVEN_UP")?;
+    let given_up = filters_of(alloc, "-U", texts.as_slice())?;
+    if filters.is_empty() && given_up.is_empty() {
+        return Err(said(alloc, "there is no topic to subscribe to: give -t FILTER"));
+    }
+    Ok(Filters { filters, given_up })
+}
+
+// Whether retained messages are skipped, and whether they alone are printed.
+fn retained_of(alloc: Global, matches: &ArgMatches<'_>) -> Result<(bool, bool), OptionFault>
+    ensures { IfOk result (λ both. IsRetained (found_of matches.now) both.0 both.1) }
+{
+    let (skips_retained, only_retained) = (flag_of(matches, "FRESH"), flag_of(matches, "RETAINED"));
+    if skips_retained && only_retained {
+        return Err(said(
+            alloc,
+            "-R and --retained-only together print nothing: give only one of them",
+        ));
+    }
+    Ok((skips_retained, only_retained))
+}
+
+// The filters of `-T`.
+fn excluded_of(alloc: Global, matches: &ArgMatches<'_>) -> Result<Vec<TopicFilter>, OptionFault>
+    ensures { IfOk result
+        (λ filters. filters.items ≡ texts_of (found_of matches.now) (codes "EXCLUDED")) }
+{
+    let texts = all_of(alloc, matches, "EXCLUDED")?;
+    filters_of(alloc, "-T", texts.as_slice())
+}
+
+// The number of `-C`.
+fn count_of(matches: &ArgMatches<'_>) -> Option<u64>
+    ensures { IsNumber 64 (one_text (found_of matches.now) (codes "COUNT")) result }
+{
+    matches.get_one("COUNT")
+}
+
+// The options about messages, besides the topics to subscribe to.
+#[derive(Drop)]
+struct Own {
+    excluded: Vec<TopicFilter>,
+    skips_retained: bool,
+    only_retained: bool,
+    style: Style,
+    has_line_end: bool,
+}
+
+fn own_of(alloc: Global, matches: &ArgMatches<'_>) -> Result<Own, OptionFault>
+    ensures excluded { IfOk result
+        (λ own. own.excluded.items ≡ texts_of (found_of matches.now) (codes "EXCLUDED")) }
+    ensures retained { IfOk result
+        (λ own. IsRetained (found_of matches.now) own.skips_retained own.only_retained) }
+    ensures printed { IfOk result
+        (λ own. IsPrinted (found_of matches.now) own.style own.has_line_end) }
+{
+    let (skips_retained, only_retained) = retained_of(alloc, matches)?;
+    let excluded = excluded_of(alloc, matches)?;
+    let (style, has_line_end) = printed_of(alloc, matches)?;
+    Ok(Own {
+        excluded,
+        skips_retained,
+        only_retained,
+        style,
+        has_line_end,
+    })
+}
+
+// The arguments with these options of both commands.
+fn with_common(
+    alloc: Global,
+    matches: &ArgMatches<'_>,
+    common: Common,
+) -> Result<SubscribeWords, OptionFault>
+    requires { IsCommon (found_of matches.now) common }
+    ensures { IfOk result (IsSubscribe (found_of matches.now)) }
+{
+    let Filters { filters, given_up } = filters_in(alloc, matches, &common)?;
+    let Own {
+        excluded,
+        skips_retained,
+        only_retained,
+        style,
+        has_line_end,
+    } = own_of(alloc, matches)?;
+    Ok(SubscribeWords {
+        common,
+        filters,
+        given_up,
+        excluded,
+        count: count_of(matches),
+        skips_retained,
+        only_retained,
+        ends_when_granted: flag_of(matches, "GRANTED"),
+        style,
+        has_line_end,
+    })
+}
+
 // The arguments that the parser matched.
 fn matched(
     alloc: Global,
@@ -100,33 +227,7 @@ fn matched(
     ensures { IfOk result (IsSubscribe (found_of matches.now)) }
 {
     let common = common_of(alloc, matches, defaults)?;
-    let filters = topics_of(alloc, matches, &common)?;
-    let given_up = all_of(alloc, matches, "GIVEN_UP")?;
-    let given_up = filters_of(alloc, "-U", given_up.as_slice())?;
-    if filters.is_empty() && given_up.is_empty() {
-        return Err(said(alloc, "there is no topic to subscribe to: give -t FILTER"));
-    }
-    let (skips_retained, only_retained) = (flag_of(matches, "FRESH"), flag_of(matches, "RETAINED"));
-    if skips_retained && only_retained {
-        return Err(said(
-            alloc,
-            "-R and --retained-only together print nothing: give only one of them",
-        ));
-    }
-    let excluded = all_of(alloc, matches, "EXCLUDED")?;
-    let count: Option<u64> = matches.get_one("COUNT");
-    Ok(SubscribeWords {
-        common,
-        filters,
-        given_up,
-        excluded: filters_of(alloc, "-T", excluded.as_slice())?,
-        count,
-        skips_retained,
-        only_retained,
-        ends_when_granted: flag_of(matches, "GRANTED"),
-        style: style_of(alloc, matches)?,
-        has_line_end: !matches.get_flag("BARE"),
-    })
+    with_common(alloc, matches, common)
 }
 
 /// Reads the arguments of `mqtt sub`, without the name of the program and of the command.

@@ -2,7 +2,7 @@
 
 ghost use Rattle.std.specs.Prelude.{◌≡◌, map, option_map, string_bytes, IfOk};
 ghost use Rattle.clap.specs.Words.{first_value, found_of, one_text};
-ghost use Rattle.mq_pubsub_options.specs.Options.{IsFlag, IsTime, texts_of};
+ghost use Rattle.mq_pubsub_options.specs.Options.{IsFlag, IsQuality, IsTime, texts_of};
 
 use crate::fault::OptionFault;
 use crate::seconds::milliseconds_of;
@@ -48,7 +48,9 @@ pub(crate) fn flag_of(matches: &ArgMatches<'_>, id: &str) -> bool
 }
 
 /// The quality of service of an option, 0 without one.
-pub(crate) fn qos_of(matches: &ArgMatches<'_>, id: &str) -> Qos {
+pub(crate) fn qos_of(matches: &ArgMatches<'_>, id: &str) -> Qos
+    ensures { IsQuality (one_text (found_of matches.now) id.now) result }
+{
     let number: Option<u8> = matches.get_one(id);
     match number {
         Some(number) => Qos::from_number(number).unwrap_or(Qos::Q0),

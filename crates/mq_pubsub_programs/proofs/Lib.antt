@@ -1,1 +1,4 @@
 pub mod Rounds
+pub mod Deliveries
+pub mod Lines
+pub mod Helps

@@ -1,10 +1,11 @@
 //! Steps of both commands before their runs.
 
 use crate::explain::unread_file;
+use crate::fault::Fault;
 use bytes::Bytes;
 use mq_packet::{Binary, Login, Will};
 use mq_pubsub::Setup;
-use mq_pubsub_options::{Common, Defaults, OptionFault, WillOptions};
+use mq_pubsub_options::{Common, Defaults, WillOptions};
 use mq_wire::{Text, TextFault};
 use std::alloc::Global;
 use std::fs::File;
@@ -47,22 +48,22 @@ pub(crate) fn read_file<R: Files<File = File>>(
 }
 
 /// The error of a file that cannot be read.
-pub(crate) fn unread(alloc: Global, what: &str, name: &str, kind: ErrorKind) -> OptionFault {
+pub(crate) fn unread(alloc: Global, what: &str, name: &str, kind: ErrorKind) -> Fault {
     if kind == ErrorKind::OutOfMemory {
-        return OptionFault::Memory;
+        return Fault::Memory;
     }
     let why = unread_file(kind);
     match format!(in alloc; "{what} '{name}' cannot be read: {why}; check the name") {
-        Ok(said) => OptionFault::Said(said),
-        Err(_) => OptionFault::Memory,
+        Ok(said) => Fault::Said(said),
+        Err(_) => Fault::Memory,
     }
 }
 
 /// A sentence as an error.
-pub(crate) fn said(alloc: Global, sentence: &str) -> OptionFault {
+pub(crate) fn said(alloc: Global, sentence: &str) -> Fault {
     match String::from_str(alloc, sentence) {
-        Ok(sentence) => OptionFault::Said(sentence),
-        Err(_) => OptionFault::Memory,
+        Ok(sentence) => Fault::Said(sentence),
+        Err(_) => Fault::Memory,
     }
 }
 
@@ -79,21 +80,21 @@ fn first_line(bytes: &[u8]) -> &[u8] {
 }
 
 // Bytes for a field of a packet, at most 65,535.
-fn binary_of(alloc: Global, bytes: &[u8], option: &str) -> Result<Binary, OptionFault> {
+fn binary_of(alloc: Global, bytes: &[u8], option: &str) -> Result<Binary, Fault> {
     match Binary::new(Bytes::copy_from_slice(alloc, bytes)?) {
         Some(binary) => Ok(binary),
-        None => Err(OptionFault::Said(format!(in alloc;
+        None => Err(Fault::Said(format!(in alloc;
             "the value of {option} has more than 65,535 bytes: give a shorter one"
         )?)),
     }
 }
 
 // A text for a field of a packet.
-fn text_of(alloc: Global, text: &str, option: &str) -> Result<Text, OptionFault> {
+fn text_of(alloc: Global, text: &str, option: &str) -> Result<Text, Fault> {
     match Text::new(alloc, text) {
         Ok(text) => Ok(text),
-        Err(TextFault::Memory) => Err(OptionFault::Memory),
-        Err(TextFault::TooLong | TextFault::Nul) => Err(OptionFault::Said(format!(in alloc;
+        Err(TextFault::Memory) => Err(Fault::Memory),
+        Err(TextFault::TooLong | TextFault::Nul) => Err(Fault::Said(format!(in alloc;
             "the value of {option} has more than 65,535 bytes or the character U+0000: give another one"
         )?)),
     }
@@ -104,7 +105,7 @@ fn password_of<R: Files<File = File>>(
     rt: &R,
     alloc: Global,
     common: &Common,
-) -> Result<Option<Binary>, OptionFault> {
+) -> Result<Option<Binary>, Fault> {
     if let Some(name) = &common.password_file {
         return match read_file(rt, alloc, name.as_str()) {
             Ok(bytes) => Ok(Some(binary_of(
@@ -126,7 +127,7 @@ fn login_of<R: Files<File = File>>(
     rt: &R,
     alloc: Global,
     common: &Common,
-) -> Result<Option<Login>, OptionFault> {
+) -> Result<Option<Login>, Fault> {
     let password = password_of(rt, alloc, common)?;
     match &common.address.user {
         Some(user) => Ok(Some(Login {
@@ -143,7 +144,7 @@ fn login_of<R: Files<File = File>>(
 }
 
 // The will in the options.
-fn will_of(alloc: Global, will: &Option<WillOptions>) -> Result<Option<Will>, OptionFault> {
+fn will_of(alloc: Global, will: &Option<WillOptions>) -> Result<Option<Will>, Fault> {
     match will {
         Some(will) => Ok(Some(Will {
             topic: will.topic.clone()?,
@@ -156,7 +157,7 @@ fn will_of(alloc: Global, will: &Option<WillOptions>) -> Result<Option<Will>, Op
 }
 
 // A client identifier that no other client has, as far as chance goes.
-fn made_up<R: RandomSource>(rt: &R, alloc: Global, command: &str) -> Result<Text, OptionFault> {
+fn made_up<R: RandomSource>(rt: &R, alloc: Global, command: &str) -> Result<Text, Fault> {
     let mut random = [0u8; RANDOM];
     if rt.fill_bytes(&mut random).is_err() {
         return Err(said(
@@ -176,7 +177,7 @@ pub(crate) fn identifier<R: RandomSource>(
     command: &str,
     common: &Common,
     saved: Option<&Text>,
-) -> Result<Text, OptionFault> {
+) -> Result<Text, Fault> {
     if let Some(id) = &common.id {
         return text_of(alloc, id.as_str(), "-i");
     }
@@ -192,7 +193,7 @@ pub(crate) fn setup_of<R: Files<File = File>>(
     alloc: Global,
     common: &Common,
     id: Text,
-) -> Result<Setup, OptionFault> {
+) -> Result<Setup, Fault> {
     Ok(Setup {
         id,
         keep_alive: common.keep_alive,

@@ -1,10 +1,10 @@
 //! Sentences for standard error.
 
 ghost use Rattle.std.specs.Prelude.{◌≡◌};
-ghost use Rattle.mq_pubsub_programs.specs.Status.{status_of};
+ghost use Rattle.mq_pubsub_programs.specs.Status.{fault_status, status_of};
 
+use crate::fault::Fault;
 use crate::link::NoLink;
-use crate::{FAILED, NO_MEMORY};
 use mq_end::{CloseReason, PublishRefusal};
 use mq_packet::RefusalCode;
 use mq_pubsub::RunError;
@@ -12,6 +12,12 @@ use mq_pubsub_runs::Tally;
 use mq_topic::Qos;
 use std::fmt;
 use std::io::ErrorKind;
+
+/// The status of an error.
+pub(crate) const FAILED: u8 = 1;
+
+/// The status if an allocation fails.
+pub(crate) const NO_MEMORY: u8 = 3;
 
 /// The status if the time of a run is over.
 const TIMED_OUT: u8 = 27;
@@ -239,6 +245,23 @@ fn tell_system<R: Eprint>(rt: &R, place: &Place<'_>, error: RunError, work: Work
         RunError::Output => eprintln!(rt; "mqtt {command}: standard output cannot be written."),
         error => eprintln!(rt; "mqtt {command}: {error}; {work}."),
     };
+}
+
+/// Says why a command stopped before its run. Returns the status.
+pub(crate) fn tell_fault<R: Eprint>(rt: &R, command: &str, fault: Fault) -> u8
+    ensures { result ≡ fault_status fault }
+{
+    match fault {
+        Fault::Said(sentence) => {
+            let sentence = sentence.as_str();
+            let _ = eprintln!(rt; "mqtt {command}: {sentence}.");
+            FAILED
+        }
+        Fault::Memory => {
+            let _ = eprintln!(rt; "mqtt {command}: out of memory.");
+            NO_MEMORY
+        }
+    }
 }
 
 /// Says why a run stopped early.

@@ -1,7 +1,7 @@
 //! The source of the messages of `mqtt pub`.
 
 ghost use Rattle.std.specs.Prelude.{◌≡◌, IfOk};
-ghost use Rattle.mq_pubsub_programs.specs.Feeding.{Supplies};
+ghost use Rattle.mq_pubsub_programs.specs.Feeding.{EndsSupply, Supplies};
 
 use crate::explain::Grouped;
 use crate::known::Known;
@@ -71,6 +71,7 @@ impl<R: Clock + Eprint> Feed<'_, R> {
     // The payload of the next message, if there is one.
     fn payload(&mut self) -> Result<InputLine, RunError>
         ensures supply { IfOk result (Supplies self.old.supply self.new.supply) }
+        ensures end { IfOk result (EndsSupply self.new.supply) }
         ensures rest { self.new ≡ record self.old { supply = self.new.supply } }
     {
         match &mut self.supply {
@@ -96,9 +97,11 @@ impl<R: Clock + Eprint> Feed<'_, R> {
 }
 
 impl<R: Clock + Eprint> Source for Feed<'_, R> {
-    ghost use Rattle.mq_pubsub_programs.specs.Feeding.{given_of};
+    ghost use Rattle.mq_pubsub_programs.specs.Feeding.{IsUsedUp, coming_of};
 
-    ghost given = { λ feed. given_of feed.topic.now feed.qos feed.retain feed.supply };
+    ghost coming = { λ feed. coming_of feed.topic.now feed.qos feed.retain feed.supply };
+
+    ghost ended = { λ feed. IsUsedUp feed.supply };
 
     fn next(&mut self) -> Result<Next, RunError> {
         let left = self.left();

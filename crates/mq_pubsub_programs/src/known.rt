@@ -23,14 +23,12 @@ pub(crate) struct Known {
 }
 
 impl Known {
-    ghost use Rattle.mq_pubsub_programs.specs.Feeding.{EndsWith, payloads_in, taken_payloads};
+    ghost use Rattle.mq_pubsub_programs.specs.Feeding.{EndsWith, coming_payloads, payloads_in, rounds_of};
 
     /// Takes these payloads, in order, this many times.
+    #[tactic(auto, using(crate::proofs::Rounds::all_rounds))]
     pub(crate) fn new(payloads: Vec<Payload>, repeat: u64) -> Known
-        ensures payloads { result.payloads ≡ payloads }
-        ensures repeat { result.repeat ≡ repeat }
-        ensures rounds { result.rounds ≡ 0 }
-        ensures index { result.index ≡ 0 }
+        ensures { coming_payloads result ≡ rounds_of payloads.items repeat }
     {
         Known {
             payloads,
@@ -51,10 +49,8 @@ impl Known {
     fn advance(&mut self)
         requires within { self.old.index < vec_len self.old.payloads }
         requires more { self.old.rounds < self.old.repeat }
-        ensures taken { taken_payloads self.new
-            ≡ taken_payloads self.old ++ get_or self.old.payloads.items self.old.index [] ∷ [] }
-        ensures payloads { self.new.payloads ≡ self.old.payloads }
-        ensures repeat { self.new.repeat ≡ self.old.repeat }
+        ensures { coming_payloads self.old
+            ≡ get_or self.old.payloads.items self.old.index [] ∷ coming_payloads self.new }
     {
         if self.index + 1 < self.payloads.len() {
             self.index += 1;
@@ -67,12 +63,10 @@ impl Known {
     /// The next payload.
     #[tactic(auto, using(crate::proofs::Rounds::rounds_over, crate::proofs::Rounds::nothing_left))]
     pub(crate) fn next(&mut self) -> Result<InputLine, AllocError>
-        ensures taken { IfOk result
-            (λ line. taken_payloads self.new ≡ taken_payloads self.old ++ payloads_in line) }
-        ensures end { IfOk result (EndsWith self.new) }
-        ensures payloads { self.new.payloads ≡ self.old.payloads }
-        ensures repeat { self.new.repeat ≡ self.old.repeat }
-        ensures err { OnErr result (taken_payloads self.new ≡ taken_payloads self.old) }
+        ensures gives { IfOk result
+            (λ line. coming_payloads self.old ≡ payloads_in line ++ coming_payloads self.new) }
+        ensures end { IfOk result (EndsWith (coming_payloads self.new)) }
+        ensures err { OnErr result (coming_payloads self.new ≡ coming_payloads self.old) }
     {
         if self.rounds >= self.repeat {
             return Ok(InputLine::End);

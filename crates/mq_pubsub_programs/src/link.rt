@@ -1,12 +1,15 @@
 //! Connections to one broker.
 
+ghost use Rattle.std.specs.Prelude.{◌≡◌};
+ghost use Rattle.mq_pubsub_programs.specs.Status.{status_of};
+
 use crate::common::patience_of;
-use crate::explain::Place;
+use crate::explain::{Place, Work, status_of, tell_end};
 use crate::polled::PolledStream;
 use crate::trace::TracedStream;
 use crate::watch::Watch;
 use mq_client::Connection;
-use mq_pubsub::Setup;
+use mq_pubsub::{RunError, Setup};
 use mq_pubsub_options::Common;
 use mq_pubsub_runs::{Network, PacketStream};
 use mq_stream::{Broken, Elapsed, Stream};
@@ -93,13 +96,8 @@ impl<'a, R> Link<'a, R> {
         }
     }
 
-    /// The broker, for sentences of this command.
-    pub(crate) fn place(
-        &self,
-        command: &'a str,
-        common: &Common,
-        session: Option<&'a str>,
-    ) -> Place<'a> {
+    // The broker, for sentences of this command.
+    fn place(&self, command: &'a str, common: &Common, session: Option<&'a str>) -> Place<'a> {
         Place {
             command,
             host: self.host,
@@ -109,6 +107,26 @@ impl<'a, R> Link<'a, R> {
             has_user: common.address.user.is_some(),
             retries: common.longest_wait.is_some(),
         }
+    }
+
+    /// Says why a run of this command stopped early, unless it is to be quiet. Returns its status.
+    pub(crate) fn report(
+        &self,
+        command: &'a str,
+        common: &Common,
+        session: Option<&'a str>,
+        end: Result<(), RunError>,
+        work: Work,
+    ) -> u8
+    where
+        R: Eprint,
+        ensures { result ≡ status_of end }
+    {
+        if let (Err(error), false) = (end, common.quiet) {
+            let place = self.place(command, common, session);
+            tell_end(self.rt, &place, error, work);
+        }
+        status_of(end)
     }
 }
 

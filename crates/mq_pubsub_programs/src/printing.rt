@@ -1,7 +1,9 @@
 //! The lines of `mqtt sub`.
 
-ghost use Rattle.std.specs.Prelude.{OnOk};
+ghost use Rattle.std.specs.Prelude.{OnErr, OnOk};
 ghost use Rattle.std.specs.Io.KnownBytes.{Appends};
+ghost use Rattle.mq_packet.specs.Writing.{AppendsFront};
+ghost use Rattle.mq_format.specs.Format.{line_text};
 
 use mq_format::{Envelope, Moment, Style};
 use mq_packet::{Message, PacketId, Request};
@@ -37,14 +39,37 @@ fn moment_of<R: Clock>(rt: &R) -> Moment {
 }
 
 // Writes a line, and flushes.
+#[tactic(auto, using(crate::proofs::Lines::front_all))]
 fn write_line<W: Write>(output: &mut W, line: &[u8]) -> Result<(), RunError>
-    ensures { OnOk result
-        (Appends (W.contents output.old) (W.contents output.new) line.now) }
+    ensures ok { OnOk result (Appends (W.contents output.old) (W.contents output.new) line.now) }
+    ensures err { OnErr result
+        (AppendsFront (W.contents output.old) (W.contents output.new) line.now) }
 {
-    if write_bytes(output, line, &mut OnInterrupt).is_err() || output.flush().is_err() {
+    if write_bytes(output, line, &mut OnInterrupt).is_err() {
+        return Err(RunError::Output);
+    }
+    if output.flush().is_err() {
         return Err(RunError::Output);
     }
     Ok(())
+}
+
+// Writes the line of a message, and flushes.
+#[tactic(auto, using(crate::proofs::Lines::front_none))]
+fn write_message<W: Write>(
+    output: &mut W,
+    alloc: Global,
+    style: &Style,
+    has_line_end: bool,
+    envelope: &Envelope<'_>,
+) -> Result<(), RunError>
+    ensures ok { OnOk result (Appends (W.contents output.old) (W.contents output.new)
+        (line_text style.now has_line_end envelope.now)) }
+    ensures err { OnErr result (AppendsFront (W.contents output.old) (W.contents output.new)
+        (line_text style.now has_line_end envelope.now)) }
+{
+    let line = style.line(alloc, envelope, has_line_end)?;
+    write_line(output, line.as_slice())
 }
 
 impl<R: Clock + Print + Eprint> Printer for Lines<'_, R> {
@@ -54,8 +79,8 @@ impl<R: Clock + Print + Eprint> Printer for Lines<'_, R> {
             id,
             moment: moment_of(self.rt),
         };
-        let line = self.style.line(self.alloc, &envelope, self.has_line_end)?;
-        write_line(&mut io::writer(self.rt), line.as_slice())?;
+        let output = &mut io::writer(self.rt);
+        write_message(output, self.alloc, self.style, self.has_line_end, &envelope)?;
         self.printed = self.printed.saturating_add(1);
         Ok(())
     }

@@ -1,11 +1,11 @@
 //! Sessions in files.
 
 use crate::common::said;
+use crate::fault::Fault;
 use mq_client::{Disk, SessionFile, SessionLock, SystemDisk, linked_name};
 use mq_end::ClientEnd;
 use mq_flow::{LoadError, Saved};
 use mq_pubsub::Setup;
-use mq_pubsub_options::OptionFault;
 use mq_wire::Text;
 use std::alloc::Global;
 use std::fs::File;
@@ -26,15 +26,15 @@ pub(crate) struct Session<'a, R: Files<File = File>> {
 }
 
 // The error of a session file.
-fn fault<'a>(alloc: Global, name: &'a str, why: &'a str, advice: &'a str) -> OptionFault {
+fn file_fault<'a>(alloc: Global, name: &'a str, why: &'a str, advice: &'a str) -> Fault {
     match format!(in alloc; "the session file '{name}' {why}: {advice}") {
-        Ok(said) => OptionFault::Said(said),
-        Err(_) => OptionFault::Memory,
+        Ok(said) => Fault::Said(said),
+        Err(_) => Fault::Memory,
     }
 }
 
 // The form of a session without its mark, and whether it has one.
-fn unmarked(alloc: Global, bytes: Vec<u8>) -> Result<(Vec<u8>, bool), OptionFault> {
+fn unmarked(alloc: Global, bytes: Vec<u8>) -> Result<(Vec<u8>, bool), Fault> {
     match bytes.as_slice() {
         [b'L', b'O', b'S', b'T', form @ ..] => Ok((form.to_vec(alloc)?, true)),
         _ => Ok((bytes, false)),
@@ -47,16 +47,16 @@ fn lock_of<'a, R: Files<File = File>>(
     alloc: Global,
     name: &str,
     linked: &str,
-) -> Result<SessionLock<'a, R>, OptionFault> {
+) -> Result<SessionLock<'a, R>, Fault> {
     match SessionLock::take(rt, alloc, linked) {
         Ok(Some(lock)) => Ok(lock),
         Ok(None) => {
             let advice = "wait for that run to end, or name another file";
-            Err(fault(alloc, name, "is used by another run", advice))
+            Err(file_fault(alloc, name, "is used by another run", advice))
         }
         Err(_) => {
             let advice = "check that its folder can be written";
-            Err(fault(alloc, name, "cannot be locked", advice))
+            Err(file_fault(alloc, name, "cannot be locked", advice))
         }
     }
 }
@@ -67,7 +67,7 @@ fn form_of<R: Files<File = File>>(
     alloc: Global,
     name: &str,
     linked: &str,
-) -> Result<(Option<Vec<u8>>, bool), OptionFault> {
+) -> Result<(Option<Vec<u8>>, bool), Fault> {
     match SystemDisk(rt).read(alloc, linked) {
         Ok(Some(bytes)) => {
             let (form, is_lost) = unmarked(alloc, bytes)?;
@@ -75,10 +75,10 @@ fn form_of<R: Files<File = File>>(
         }
         Ok(None) => Ok((None, false)),
         Err(error) => match error.kind() {
-            ErrorKind::OutOfMemory => Err(OptionFault::Memory),
+            ErrorKind::OutOfMemory => Err(Fault::Memory),
             _ => {
                 let advice = "check its name and its rights";
-                Err(fault(alloc, name, "cannot be read", advice))
+                Err(file_fault(alloc, name, "cannot be read", advice))
             }
         },
     }
@@ -87,13 +87,9 @@ fn form_of<R: Files<File = File>>(
 impl<'a, R: Files<File = File>> Session<'a, R> {
     /// The session in the file of this name, if there is one. The run must `close` it, also after
     /// an error.
-    pub(crate) fn open(
-        rt: &'a R,
-        alloc: Global,
-        name: &str,
-    ) -> Result<Session<'a, R>, OptionFault> {
+    pub(crate) fn open(rt: &'a R, alloc: Global, name: &str) -> Result<Session<'a, R>, Fault> {
         let Ok(linked) = linked_name(rt, alloc, name) else {
-            return Err(fault(alloc, name, "cannot be used", "check its name"));
+            return Err(file_fault(alloc, name, "cannot be used", "check its name"));
         };
         let lock = lock_of(rt, alloc, name, linked.as_str())?;
         match form_of(rt, alloc, name, linked.as_str()) {
@@ -118,7 +114,7 @@ impl<'a, R: Files<File = File>> Session<'a, R> {
     }
 
     /// The identifier of the client that the session belongs to.
-    pub(crate) fn client_id(&self) -> Result<Option<Text>, OptionFault> {
+    pub(crate) fn client_id(&self) -> Result<Option<Text>, Fault> {
         match &self.form {
             Some(form) => match Saved::load(self.alloc, form.as_slice()) {
                 Ok(saved) => Ok(match &saved.client {
@@ -132,16 +128,16 @@ impl<'a, R: Files<File = File>> Session<'a, R> {
     }
 
     // The error of a form that is not a session of the client.
-    fn unloaded(&self, why: LoadError) -> OptionFault {
+    fn unloaded(&self, why: LoadError) -> Fault {
         match why {
-            LoadError::Memory => OptionFault::Memory,
-            LoadError::AnotherClient => fault(
+            LoadError::Memory => Fault::Memory,
+            LoadError::AnotherClient => file_fault(
                 self.alloc,
                 self.name.as_str(),
                 "has the session of another client identifier",
                 "give that with -i, or name another file",
             ),
-            _ => fault(
+            _ => file_fault(
                 self.alloc,
                 self.name.as_str(),
                 "has no session",
@@ -151,7 +147,7 @@ impl<'a, R: Files<File = File>> Session<'a, R> {
     }
 
     /// The client with the session, or a new one.
-    pub(crate) fn client(&self, setup: &Setup) -> Result<ClientEnd, OptionFault> {
+    pub(crate) fn client(&self, setup: &Setup) -> Result<ClientEnd, Fault> {
         match &self.form {
             Some(form) => match setup.saved_client(self.alloc, form.as_slice()) {
                 Ok(client) => Ok(client),
@@ -182,8 +178,8 @@ impl<'a, R: Files<File = File>> Session<'a, R> {
     }
 
     /// The error of a session that the broker lost in an earlier run.
-    pub(crate) fn lost(&self) -> OptionFault {
-        fault(
+    pub(crate) fn lost(&self) -> Fault {
+        file_fault(
             self.alloc,
             self.name.as_str(),
             "has a session that the broker lost, so some of its messages may not have arrived",
@@ -192,7 +188,27 @@ impl<'a, R: Files<File = File>> Session<'a, R> {
     }
 }
 
+/// The name of the file of a session, if there is one.
+pub(crate) fn name_of<'b, R: Files<File = File>>(
+    session: &'b Option<Session<'_, R>>,
+) -> Option<&'b str> {
+    match session {
+        Some(session) => Some(session.name.as_str()),
+        None => None,
+    }
+}
+
+/// The identifier of the client that a session belongs to, if there is one.
+pub(crate) fn saved_id<R: Files<File = File>>(
+    session: &Option<Session<'_, R>>,
+) -> Result<Option<Text>, Fault> {
+    match session {
+        Some(session) => session.client_id(),
+        None => Ok(None),
+    }
+}
+
 /// The error of a clock that can't be read.
-pub(crate) fn no_clock(alloc: Global) -> OptionFault {
+pub(crate) fn no_clock(alloc: Global) -> Fault {
     said(alloc, "the system's clock cannot be read: check the system")
 }

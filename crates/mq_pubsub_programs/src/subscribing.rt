@@ -1,84 +1,106 @@
 //! The command `mqtt sub`.
 
-use crate::common::{defaults_of, identifier, setup_of};
-use crate::explain::{Work, status_of, tell_end};
+ghost use Rattle.std.specs.Prelude.{◌≡◌, ⊤, [], map, option_map, unwrap_or, IfOk, OnOk, Result};
+ghost use Rattle.mq_pubsub.specs.declared.error.RunError.{RunError as Failure};
+ghost use Rattle.mq_pubsub_programs.specs.Following.{Follows, IsRun, request_of};
+ghost use Rattle.mq_pubsub_programs.specs.Status.{IsStatus, status_of};
+
+use crate::common::{identifier, setup_of};
+use crate::explain::{Work, tell_fault};
+use crate::fault::Fault;
 use crate::link::{Link, PacketLink};
 use crate::printing::Lines;
-use crate::session::{Session, no_clock};
-use crate::tell_fault;
+use crate::runs::subscribe_with;
+use crate::session::{Session, name_of, no_clock, saved_id};
 use crate::watch::Watch;
-use mq_client::{NoSaver, SavingTo};
 use mq_packet::{NonEmpty, Request};
-use mq_pubsub::{Choice, Retry, RunError, Setup, SubscribeOptions};
-use mq_pubsub_options::{OptionFault, SubscribeWords, subscribe_words};
-use mq_pubsub_runs::subscribe;
-use mq_topic::TopicFilter;
+use mq_pubsub::{Choice, Retry, Setup, SubscribeOptions};
+use mq_pubsub_options::SubscribeWords;
+use mq_topic::{Qos, TopicFilter};
 use mq_wire::Text;
 use std::alloc::Global;
 use std::fs::File;
 use std::io::Input;
 use std::net::Net;
 use std::random::RandomSource;
-use std::rt::{Env, Files};
+use std::rt::Files;
 use std::time::{Clock, Instant};
 
-/// Reads the arguments.
-pub(crate) fn words_of<R: Env + AllocGlobal>(
-    rt: &R,
-    alloc: Global,
-    words: &[&str],
-) -> Result<SubscribeWords, OptionFault> {
-    subscribe_words(alloc, words, defaults_of(rt))
+// A list, if it has an item.
+fn some_of<T: Drop>(items: Vec<T>) -> Option<NonEmpty<T>>
+    ensures { unwrap_or result [] ≡ items.items }
+{
+    if items.is_empty() {
+        return None;
+    }
+    Some(NonEmpty::from_vec(items))
 }
 
 // The subscriptions to request.
 fn requests_of(
     alloc: Global,
-    words: &SubscribeWords,
-) -> Result<Option<NonEmpty<Request>>, OptionFault> {
+    filters: &[TopicFilter],
+    qos: Qos,
+) -> Result<Option<NonEmpty<Request>>, Fault>
+    ensures { IfOk result (λ requests. unwrap_or requests []
+        ≡ map (request_of qos) filters.now) }
+{
     let mut requests = Vec::new(alloc);
-    for filter in words.filters.as_slice() {
+    for filter in filters {
         let filter = filter.clone()?;
-        let qos = words.common.qos;
         if requests.push(Request { filter, qos }).is_err() {
-            return Err(OptionFault::Memory);
+            return Err(Fault::Memory);
         }
     }
-    Ok(if requests.is_empty() {
-        None
-    } else {
-        Some(NonEmpty::from_vec(requests))
-    })
+    Ok(some_of(requests))
 }
 
 // The subscriptions to give up.
 fn given_up_of(
     alloc: Global,
-    words: &SubscribeWords,
-) -> Result<Option<NonEmpty<TopicFilter>>, OptionFault> {
-    let mut filters = Vec::new(alloc);
-    for filter in words.given_up.as_slice() {
-        if filters.push(filter.clone()?).is_err() {
-            return Err(OptionFault::Memory);
+    filters: &[TopicFilter],
+) -> Result<Option<NonEmpty<TopicFilter>>, Fault>
+    ensures { IfOk result (λ given_up. unwrap_or given_up [] ≡ filters.now) }
+{
+    let mut given_up = Vec::new(alloc);
+    for filter in filters {
+        if given_up.push(filter.clone()?).is_err() {
+            return Err(Fault::Memory);
         }
     }
-    Ok(if filters.is_empty() {
-        None
-    } else {
-        Some(NonEmpty::from_vec(filters))
-    })
+    Ok(some_of(given_up))
+}
+
+// What is requested.
+#[derive(Drop)]
+struct Wishes {
+    requests: Option<NonEmpty<Request>>,
+    given_up: Option<NonEmpty<TopicFilter>>,
+}
+
+// The requests of the arguments.
+fn wishes_of(alloc: Global, words: &SubscribeWords) -> Result<Wishes, Fault>
+    ensures requests { IfOk result (λ wishes. unwrap_or wishes.requests []
+        ≡ map (request_of words.now.common.qos) words.now.filters.items) }
+    ensures given_up { IfOk result
+        (λ wishes. unwrap_or wishes.given_up [] ≡ words.now.given_up.items) }
+{
+    let requests = requests_of(alloc, words.filters.as_slice(), words.common.qos)?;
+    let given_up = given_up_of(alloc, words.given_up.as_slice())?;
+    Ok(Wishes { requests, given_up })
 }
 
 // The options of a run.
-fn options_of<'a>(
-    words: &'a SubscribeWords,
-    requests: Option<&'a NonEmpty<Request>>,
-    given_up: Option<&'a NonEmpty<TopicFilter>>,
-) -> SubscribeOptions<'a> {
+fn options_of<'a>(words: &'a SubscribeWords, wishes: &'a Wishes) -> SubscribeOptions<'a>
+    requires requests { unwrap_or wishes.now.requests []
+        ≡ map (request_of words.now.common.qos) words.now.filters.items }
+    requires given_up { unwrap_or wishes.now.given_up [] ≡ words.now.given_up.items }
+    ensures { IsRun words.now result }
+{
     let common = &words.common;
     SubscribeOptions {
-        requests,
-        given_up,
+        requests: wishes.requests.as_ref(),
+        given_up: wishes.given_up.as_ref(),
         choice: Choice {
             skips_retained: words.skips_retained,
             only_retained: words.only_retained,
@@ -99,14 +121,14 @@ fn lines_of<'a, R>(
     rt: &'a R,
     alloc: Global,
     words: &'a SubscribeWords,
-    requests: Option<&'a NonEmpty<Request>>,
+    wishes: &'a Wishes,
 ) -> Lines<'a, R> {
     Lines {
         rt,
         alloc,
         style: &words.style,
         has_line_end: words.has_line_end,
-        requests: match requests {
+        requests: match &wishes.requests {
             Some(requests) => requests.as_slice(),
             None => &[],
         },
@@ -115,69 +137,55 @@ fn lines_of<'a, R>(
     }
 }
 
-// Subscribes with a session file or without one.
-fn subscribe_with<R: Net + Clock + Print + Eprint + Files<File = File>>(
+// Makes these requests, prints the messages, and says why it stopped early.
+fn subscribe_to<'x, R>(
+    rt: &'x R,
     alloc: Global,
-    setup: &Setup,
+    words: &'x SubscribeWords,
     session: &Option<Session<'_, R>>,
-    link: &mut Link<'_, R>,
-    options: &SubscribeOptions<'_>,
-    printer: &mut Lines<'_, R>,
-) -> Result<Result<(), RunError>, OptionFault> {
-    let mut link = PacketLink(link);
-    match session {
-        Some(session) => {
-            let client = session.client(setup)?;
-            let keeper = SavingTo {
-                alloc,
-                store: session.file(),
-            };
-            let done = subscribe(alloc, setup, client, keeper, &mut link, options, printer);
-            Ok(done.end)
-        }
-        None => {
-            let client = setup.client(alloc)?;
-            let done = subscribe(alloc, setup, client, NoSaver, &mut link, options, printer);
-            Ok(done.end)
-        }
-    }
+    setup: &Setup,
+    wishes: &'x Wishes,
+    start: Instant,
+) -> Result<u8, Fault>
+where
+    R: Net + Clock + Files<File = File> + Print + Eprint,
+    requires requests { unwrap_or wishes.now.requests []
+        ≡ map (request_of words.now.common.qos) words.now.filters.items }
+    requires given_up { unwrap_or wishes.now.given_up [] ≡ words.now.given_up.items }
+    ensures { IfOk result (λ status. (end : Result ⊤ Failure) × (status ≡ status_of end)
+        × OnOk end (Follows words.now)) }
+{
+    let watch = Watch::new();
+    let mut link = Link::new(rt, alloc, &words.common, &watch, start);
+    let options = options_of(words, wishes);
+    let mut printer = lines_of(rt, alloc, words, wishes);
+    let mut packets = PacketLink(&mut link);
+    let end = subscribe_with(alloc, setup, session, &mut packets, &options, &mut printer)?;
+    let work = Work::Printed(printer.printed);
+    Ok(link.report("sub", &words.common, name_of(session), end, work))
 }
 
-// Subscribes as a client with this identifier, and says why it stopped early.
+// Subscribes as a client with this identifier.
 fn subscribe_as<R>(
     rt: &R,
     alloc: Global,
     words: &SubscribeWords,
     session: &Option<Session<'_, R>>,
     id: Text,
-) -> Result<u8, OptionFault>
+) -> Result<u8, Fault>
 where
     R: Net + Clock + Files<File = File> + Print + Eprint,
+    ensures { IfOk result (λ status. (end : Result ⊤ Failure) × (status ≡ status_of end)
+        × OnOk end (Follows words.now)) }
 {
-    let common = &words.common;
-    let setup = setup_of(rt, alloc, common, id)?;
-    let requests = requests_of(alloc, words)?;
-    let given_up = given_up_of(alloc, words)?;
+    let setup = setup_of(rt, alloc, &words.common, id)?;
+    let wishes = wishes_of(alloc, words)?;
     let Ok(start) = Instant::now(rt) else {
         drop(setup);
-        drop(requests);
-        drop(given_up);
+        drop(wishes);
         return Err(no_clock(alloc));
     };
-    let watch = Watch::new();
-    let mut link = Link::new(rt, alloc, common, &watch, start);
-    let options = options_of(words, requests.as_ref(), given_up.as_ref());
-    let mut printer = lines_of(rt, alloc, words, requests.as_ref());
-    let end = subscribe_with(alloc, &setup, session, &mut link, &options, &mut printer)?;
-    if let (Err(error), false) = (end, common.quiet) {
-        let session = match session {
-            Some(session) => Some(session.name.as_str()),
-            None => None,
-        };
-        let place = link.place("sub", common, session);
-        tell_end(rt, &place, error, Work::Printed(printer.printed));
-    }
-    Ok(status_of(end))
+    subscribe_to(rt, alloc, words, session, &setup, &wishes, start)
 }
 
 // Subscribes as the client of the options or of the session.
@@ -186,22 +194,24 @@ fn subscribe_named<R>(
     alloc: Global,
     words: &SubscribeWords,
     session: &Option<Session<'_, R>>,
-) -> Result<u8, OptionFault>
+) -> Result<u8, Fault>
 where
     R: Net + Clock + Files<File = File> + Print + Eprint + RandomSource,
+    ensures { IfOk result (λ status. (end : Result ⊤ Failure) × (status ≡ status_of end)
+        × OnOk end (Follows words.now)) }
 {
-    let saved = match session {
-        Some(session) => session.client_id()?,
-        None => None,
-    };
+    let saved = saved_id(session)?;
     let id = identifier(rt, alloc, "sub", &words.common, saved.as_ref())?;
+    drop(saved);
     subscribe_as(rt, alloc, words, session, id)
 }
 
 // Subscribes with the session file of the options, or without one.
-fn subscribe_from<R>(rt: &R, alloc: Global, words: &SubscribeWords) -> Result<u8, OptionFault>
+fn subscribe_words<R>(rt: &R, alloc: Global, words: &SubscribeWords) -> Result<u8, Fault>
 where
     R: Net + Clock + Files<File = File> + Print + Eprint + RandomSource,
+    ensures { IfOk result (λ status. (end : Result ⊤ Failure) × (status ≡ status_of end)
+        × OnOk end (Follows words.now)) }
 {
     let Some(name) = &words.common.session else {
         return subscribe_named(rt, alloc, words, &None);
@@ -214,12 +224,14 @@ where
     status
 }
 
-/// Runs `mqtt sub`. Returns its status.
-pub(crate) fn run<R>(rt: &R, alloc: Global, words: SubscribeWords) -> u8
+/// Runs `mqtt sub` with these arguments. Returns its exit status.
+pub fn run_sub<R>(rt: &R, alloc: Global, words: &SubscribeWords) -> u8
 where
     R: Net + Clock + Files<File = File> + Input + Print + Eprint + RandomSource,
+    ensures done { result ≡ 0 → Follows words.now }
+    ensures status { IsStatus result }
 {
-    match subscribe_from(rt, alloc, &words) {
+    match subscribe_words(rt, alloc, words) {
         Ok(status) => status,
         Err(fault) => tell_fault(rt, "sub", fault),
     }

@@ -1,5 +1,7 @@
 //! Payloads to publish.
 
+ghost use Rattle.std.specs.Prelude.{◌≡◌, true, IfOk};
+
 use crate::polled::has_input;
 use bytes::Bytes;
 use mq_end::ByteQueue;
@@ -15,7 +17,9 @@ const CHUNK: usize = 65_536;
 pub(crate) const INPUT: i32 = 0;
 
 /// A payload of bytes.
-pub(crate) fn payload_of(alloc: Global, bytes: &[u8]) -> Result<Payload, RunError> {
+pub(crate) fn payload_of(alloc: Global, bytes: &[u8]) -> Result<Payload, RunError>
+    ensures { IfOk result (λ payload. payload ≡ bytes.now) }
+{
     let bytes = Bytes::copy_from_slice(alloc, bytes)?;
     match Payload::new(bytes) {
         Some(payload) => Ok(payload),
@@ -26,11 +30,13 @@ pub(crate) fn payload_of(alloc: Global, bytes: &[u8]) -> Result<Payload, RunErro
 /// The lines of standard input, as they arrive.
 #[derive(Drop)]
 pub(crate) struct InputLines {
-    queue: ByteQueue,
+    /// The bytes that were read and not taken.
+    pub(crate) queue: ByteQueue,
     room: Vec<u8>,
     // The front of the queue that has no line end.
     searched: usize,
-    is_ended: bool,
+    /// A read found the end.
+    pub(crate) is_ended: bool,
 }
 
 /// A line of standard input.
@@ -42,6 +48,8 @@ pub(crate) enum InputLine {
 }
 
 impl InputLines {
+    ghost use Rattle.mq_pubsub_programs.specs.Feeding.{EndsInput};
+
     /// The lines of standard input.
     pub(crate) fn new(alloc: Global) -> Result<InputLines, RunError> {
         let mut room = Vec::new(alloc);
@@ -68,7 +76,9 @@ impl InputLines {
     }
 
     // Takes this many bytes as a line, and one more as its end.
-    fn take(&mut self, alloc: Global, count: usize) -> Result<InputLine, RunError> {
+    fn take(&mut self, alloc: Global, count: usize) -> Result<InputLine, RunError>
+        ensures { IfOk result (EndsInput self.new) }
+    {
         let bytes = self.queue.as_slice();
         let payload = payload_of(alloc, &bytes[..count.min(bytes.len())])?;
         let taken = count.saturating_add(1).min(bytes.len());
@@ -98,23 +108,34 @@ impl InputLines {
         }
     }
 
+    // Takes what is left, if there is something.
+    #[tactic(auto, using(crate::proofs::Lines::is_empty))]
+    fn take_rest(&mut self, alloc: Global) -> Result<InputLine, RunError>
+        requires { self.old.is_ended ≡ true }
+        ensures { IfOk result (EndsInput self.new) }
+    {
+        let left = self.queue.len();
+        if left == 0 {
+            return Ok(InputLine::End);
+        }
+        self.take(alloc, left)
+    }
+
     /// The next line, if it is there.
-    pub(crate) fn next(&mut self, alloc: Global) -> Result<InputLine, RunError> {
+    pub(crate) fn next(&mut self, alloc: Global) -> Result<InputLine, RunError>
+        ensures { IfOk result (EndsInput self.new) }
+    {
         for _ in 0..u64::MAX {
             if let Some(end) = self.line_end() {
                 return self.take(alloc, end);
             }
             if self.is_ended {
-                let left = self.queue.len();
-                if left == 0 {
-                    return Ok(InputLine::End);
-                }
-                return self.take(alloc, left);
+                return self.take_rest(alloc);
             }
             if !self.read()? {
                 return Ok(InputLine::Later);
             }
         }
-        Ok(InputLine::End)
+        Ok(InputLine::Later)
     }
 }

@@ -1,6 +1,7 @@
 -- The work of a publisher, part after part.
 use Rattle.std.proofs.Common.{◌≡◌, ℕ, Bool, true, false, List, [], ◌∷◌, ◌++◌, map, Option, Some, None, Result, Ok, Err, cond, refl, sym, ap, subst, ◌∙◌, append-nil, append_assoc, option_to_list, OnErr, OnOk, IfErr}
 use Rattle.std.specs.Bool.{⊤}
+use Rattle.std.proofs.lemmas.Bool.{false≢true}
 use Rattle.std.proofs.lemmas.List.{map-append}
 use Rattle.std.proofs.lemmas.List.Elements.{filter-append}
 use Rattle.std.specs.Io.KnownBytes.{Appends}
@@ -11,12 +12,12 @@ use Rattle.mq_end.specs.Publishing.{ClientState}
 use Rattle.mq_client.specs.Course.{IsIdle, Leaves, Moment, Opening, Publication, Went, WentFirst}
 use Rattle.mq_client.proofs.Courses.{went_none, went_still, went_then}
 use Rattle.mq_pubsub.specs.declared.error.RunError.{RunError}
-use Rattle.mq_pubsub.specs.Printing.{Shows}
-use Rattle.mq_pubsub.proofs.Shown.{Shows-append, Shows-none}
+use Rattle.mq_pubsub.proofs.Given.{Gives-append, Gives-none}
+use Rattle.mq_pubsub.specs.Giving.{Gives}
 use Rattle.mq_pubsub_runs.specs.declared.stop.Stop.{Stop}
 use Rattle.mq_pubsub_runs.specs.declared.stop.Stop.TheVariants.{Connection, Application}
 use Rattle.mq_pubsub_runs.specs.Stops.{IsBroken, IsConnection, IsErr, IsOk}
-use Rattle.mq_pubsub_runs.specs.Posting.{AllPosted, Fills, Finishes, PartPosted, Posted, Progress, ProgressUntil, PublishEnds, Publishes, StartsWith, is_q0, unstored}
+use Rattle.mq_pubsub_runs.specs.Posting.{AllPosted, Fills, Finishes, PartPosted, Posted, Progress, ProgressUntil, PublishEnds, Publishes, Remembers, StartsWith, is_q0, unstored}
 use Rattle.mq_pubsub_runs.specs.Posting.Posted.{Begins, Opens, Sends, Breaks, Hears, Continues}
 
 -- ---- what was published
@@ -58,7 +59,7 @@ progress_quiet a b next lost given posted = record {
   unwritten = [];
   fresh = [];
   posted = posted;
-  shown = Shows-none given;
+  given = Gives-none given;
   parts = append-nil (option_to_list next);
   none_before = λ e. e;
   none = λ e. refl;
@@ -81,7 +82,7 @@ progress_then a b c next mid later lost some missing given more taken p q = reco
   unwritten = p.unwritten ++ q.unwritten;
   fresh = p.fresh ++ q.fresh;
   posted = Posted-append a b p.messages p.unwritten p.posted c q.messages q.unwritten q.posted;
-  shown = Shows-append given more taken p.fresh q.fresh p.shown q.shown;
+  given = Gives-append given more taken p.fresh q.fresh p.given q.given;
   parts = parts_then (option_to_list next) p.fresh p.messages (option_to_list mid) q.fresh q.messages (option_to_list later) p.parts q.parts;
   none_before = λ e. p.none_before (q.none_before e);
   none = λ e. both_empty p.unwritten q.unwritten (p.none (q.none_before e)) (q.none e);
@@ -115,7 +116,7 @@ fills_none a next unwritten given = record {
   messages = [];
   fresh = [];
   published = went_none a;
-  shown = Shows-none given;
+  given = Gives-none given;
   parts = append-nil (option_to_list next);
   none_before = λ e. e;
   none = λ e. refl;
@@ -131,20 +132,20 @@ fills_then a b c next mid later unwritten some pending given more taken p q = re
   messages = p.messages ++ q.messages;
   fresh = p.fresh ++ q.fresh;
   published = published_then a b c p.messages q.messages p.published q.published;
-  shown = Shows-append given more taken p.fresh q.fresh p.shown q.shown;
+  given = Gives-append given more taken p.fresh q.fresh p.given q.given;
   parts = parts_then (option_to_list next) p.fresh p.messages (option_to_list mid) q.fresh q.messages (option_to_list later) p.parts q.parts;
   none_before = λ e. p.none_before (q.none_before e);
   none = λ e. filter-append (λ message. is_q0 message.qos) p.messages q.messages ∙ both_empty (unstored p.messages) (unstored q.messages) (p.none (q.none_before e)) (q.none e);
 }
 
 -- a message was taken
-pub fills_taken : (a : Moment) (next later : Option Message) (unwritten : ℕ) (given taken : Option (List Message)) (fresh : List Message) → Shows given taken fresh
+pub fills_taken : (a : Moment) (next later : Option Message) (unwritten : ℕ) (given taken : Option (List Message)) (fresh : List Message) → Gives given taken fresh
     → option_to_list next ++ fresh ≡ option_to_list later → Fills a a next later unwritten unwritten given taken
-fills_taken a next later unwritten given taken fresh shown parts = record {
+fills_taken a next later unwritten given taken fresh gives parts = record {
   messages = [];
   fresh = fresh;
   published = went_none a;
-  shown = shown;
+  given = gives;
   parts = parts;
   none_before = λ e. e;
   none = λ e. refl;
@@ -175,7 +176,7 @@ fills_sent a b c next later unwritten pending lost given taken p went whole = re
   unwritten = [];
   fresh = p.fresh;
   posted = Sends a c [] [] p.messages Begins (record { last = b; published = p.published; whole = whole; after = went });
-  shown = p.shown;
+  given = p.given;
   parts = p.parts;
   none_before = λ e. e;
   none = λ e. refl;
@@ -188,7 +189,7 @@ fills_broke a b c next later unwritten pending lost missing given taken p went b
   unwritten = unstored p.messages;
   fresh = p.fresh;
   posted = Breaks a c [] [] p.messages Begins (went_still a b c (map Publication p.messages) [] [] p.published went);
-  shown = p.shown;
+  given = p.given;
   parts = p.parts;
   none_before = before;
   none = λ e. p.none (none e);
@@ -228,7 +229,7 @@ all_posted a b lost given taken f =
       last = f.last;
       messages = f.progress.messages;
       posted = subst (λ ls. Posted a f.last f.progress.messages ls) (f.progress.none refl) f.progress.posted;
-      shown = subst (λ ms. Shows given taken ms) parts f.progress.shown;
+      given = subst (λ ms. Gives given taken ms) parts f.progress.given;
       idle = f.idle;
       leaves = f.leaves;
     }
@@ -330,3 +331,16 @@ run_err (Err error) (Err stop) c d k l later missing given taken is once =
 pub run_part : (c d : ClientState) (k l : Option (List ℕ)) (later : Option Message) (missing : ℕ) (given taken : Option (List Message)) → PostedSoFar c k d l later missing given taken
     → (a : Moment) × (b : Moment) × StartsWith a c k × StartsWith b d l × PartPosted a b
 run_part c d k l later missing given taken far = (far.0, far.1, far.2, far.3, part_of_progress far.0 far.1 None later 0 missing given taken far.4)
+
+-- ---- the end of the source
+
+-- nothing is noted
+pub remembers_none : (is_ended : Bool) (ended : Type 0) → is_ended ≡ false → Remembers is_ended ended
+remembers_none is_ended ended none noted = absurd (false≢true (sym none ∙ noted))
+
+-- a run that succeeded came to the end of the source
+pub run_last : (final : Result ⊤ RunError) (end : Result ⊤ Stop) (is_ended : Bool) (ended : Type 0) → OnOk final (IsOk end) → OnOk end (is_ended ≡ true) → Remembers is_ended ended
+    → OnOk final ended
+run_last (Ok done) (Ok through) is_ended ended is last remembers = remembers last
+run_last (Ok done) (Err stop) is_ended ended is last remembers = absurd is
+run_last (Err error) end is_ended ended is last remembers = tt

@@ -1,3 +1,4 @@
 pub mod Stops
 pub mod Posting
 pub mod Watching
+pub mod Discarding

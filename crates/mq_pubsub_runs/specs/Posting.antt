@@ -9,7 +9,7 @@ use Rattle.mq_end.specs.declared.happening.Happening.{Happening}
 use Rattle.mq_end.specs.declared.reason.CloseReason.{CloseReason}
 use Rattle.mq_end.specs.Publishing.{ClientState}
 use Rattle.mq_client.specs.Course.{IsIdle, Leaves, Moment, Opening, Publication, Went, WentFirst}
-use Rattle.mq_pubsub.specs.Printing.{Shows}
+use Rattle.mq_pubsub.specs.Giving.{Gives}
 use Rattle.mq_pubsub_runs.specs.declared.stop.Stop.{Stop}
 use Rattle.mq_pubsub_runs.specs.declared.stop.Stop.TheVariants.{Connection, Application}
 
@@ -50,12 +50,12 @@ pub data Posted (a : Moment) : Moment → List Message → List Message → Type
 -- Messages were taken from a source and published. `next` and `later` are the messages that were
 -- taken and not published, before and after. `lost` and `missing` count the messages of QoS 0 that
 -- may not have been written, before and after.
-pub record Progress (a b : Moment) (next later : Option Message) (lost missing : ℕ) (given taken : Option (List Message)) : Type 0 where
+pub record Progress (a b : Moment) (next later : Option Message) (lost missing : ℕ) (coming left : Option (List Message)) : Type 0 where
   pub messages : List Message
   pub unwritten : List Message
   pub fresh : List Message
   pub posted : Posted a b messages unwritten
-  pub shown : Shows given taken fresh
+  pub given : Gives coming left fresh
   pub parts : option_to_list next ++ fresh ≡ messages ++ option_to_list later
   pub none_before : missing ≡ 0 → lost ≡ 0
   pub none : missing ≡ 0 → unwritten ≡ []
@@ -70,11 +70,11 @@ pub record Publishes (a b : Moment) (next later : Option Message) (unwritten pen
   pub none : pending ≡ 0 → unstored messages ≡ []
 
 -- Messages were taken from a source and published, and the output is not sent yet.
-pub record Fills (a b : Moment) (next later : Option Message) (unwritten pending : ℕ) (given taken : Option (List Message)) : Type 0 where
+pub record Fills (a b : Moment) (next later : Option Message) (unwritten pending : ℕ) (coming left : Option (List Message)) : Type 0 where
   pub messages : List Message
   pub fresh : List Message
   pub published : Went a b (map Publication messages) [] []
-  pub shown : Shows given taken fresh
+  pub given : Gives coming left fresh
   pub parts : option_to_list next ++ fresh ≡ messages ++ option_to_list later
   pub none_before : pending ≡ 0 → unwritten ≡ 0
   pub none : pending ≡ 0 → unstored messages ≡ []
@@ -87,22 +87,22 @@ pub record PartPosted (a b : Moment) : Type 0 where
 
 -- the progress so far, if the work over a connection ended early for this reason
 abbrev pub ProgressUntil : Moment → Moment → Option Message → Option Message → ℕ → ℕ → Option (List Message) → Option (List Message) → Stop → Type 0
-ProgressUntil a b next later lost missing given taken (Connection error) = Progress a b next later lost missing given taken
-ProgressUntil a b next later lost missing given taken (Application error) = PartPosted a b
+ProgressUntil a b next later lost missing coming left (Connection error) = Progress a b next later lost missing coming left
+ProgressUntil a b next later lost missing coming left (Application error) = PartPosted a b
 
 -- All messages were published and nothing was lost. Everything is acknowledged, and then the client
 -- left.
-pub record Finishes (a b : Moment) (next : Option Message) (lost : ℕ) (given taken : Option (List Message)) : Type 0 where
+pub record Finishes (a b : Moment) (next : Option Message) (lost : ℕ) (coming left : Option (List Message)) : Type 0 where
   pub last : Moment
-  pub progress : Progress a last next None lost 0 given taken
+  pub progress : Progress a last next None lost 0 coming left
   pub idle : IsIdle last.client.link.end
   pub leaves : Leaves last b
   pub whole : Posted last b [] []
 
 -- The work over a connection is done, or it ended early.
 abbrev pub PublishEnds : Moment → Moment → Option Message → Option Message → ℕ → ℕ → Option (List Message) → Option (List Message) → Result ⊤ Stop → Type 0
-PublishEnds a b next later lost missing given taken (Ok done) = Finishes a b next lost given taken
-PublishEnds a b next later lost missing given taken (Err stop) = ProgressUntil a b next later lost missing given taken stop
+PublishEnds a b next later lost missing coming left (Ok done) = Finishes a b next lost coming left
+PublishEnds a b next later lost missing coming left (Err stop) = ProgressUntil a b next later lost missing coming left stop
 
 -- A client and its stored session, at a moment.
 pub record StartsWith (a : Moment) (client : ClientState) (kept : Option (List ℕ)) : Type 0 where
@@ -111,10 +111,18 @@ pub record StartsWith (a : Moment) (client : ClientState) (kept : Option (List �
 
 -- Every message that the source gave was published, in order. Each of QoS 0 was sent, and each of
 -- QoS 1 and 2 is acknowledged (4.3.2, 4.3.3). Then the client left.
-pub record AllPosted (a b : Moment) (given taken : Option (List Message)) : Type 0 where
+pub record AllPosted (a b : Moment) (coming left : Option (List Message)) : Type 0 where
   pub last : Moment
   pub messages : List Message
   pub posted : Posted a last messages []
-  pub shown : Shows given taken messages
+  pub given : Gives coming left messages
   pub idle : IsIdle last.client.link.end
   pub leaves : Leaves last b
+
+-- A publisher has published what it took from its source, and the source has no message any more.
+abbrev pub IsLast : Option Message → Bool → Type 0
+IsLast next is_ended = (next ≡ None) × (is_ended ≡ true)
+
+-- If a publisher notes that its source has no message any more, then this is so.
+abbrev pub Remembers : Bool → Type 0 → Type 0
+Remembers is_ended ended = is_ended ≡ true → ended

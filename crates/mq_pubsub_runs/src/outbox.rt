@@ -1,11 +1,11 @@
 //! The messages that a publisher has taken from its source.
 
-ghost use Rattle.std.specs.Prelude.{◌≡◌, ◌++◌, [], List, None, Some, map, false, IfErr, IfOk, OnErr, OnOk, option_to_list};
+ghost use Rattle.std.specs.Prelude.{◌≡◌, ◌++◌, [], List, None, Some, map, false, true, IfErr, IfOk, OnErr, OnOk, option_to_list};
 ghost use Rattle.std.specs.Io.KnownBytes.{Appends};
 ghost use Rattle.mq_packet.specs.declared.message.Message.{Message as Taken};
 ghost use Rattle.mq_client.specs.Course.{Publication, Went};
-ghost use Rattle.mq_pubsub.specs.Printing.{Shows};
-ghost use Rattle.mq_pubsub_runs.specs.Posting.{Fills, Publishes, is_q0};
+ghost use Rattle.mq_pubsub.specs.Giving.{Gives};
+ghost use Rattle.mq_pubsub_runs.specs.Posting.{Fills, IsLast, Publishes, Remembers, is_q0};
 ghost use Rattle.mq_pubsub_runs.specs.Stops.{IsConnection};
 
 use crate::stop::{Stop, run_error};
@@ -62,10 +62,10 @@ pub(crate) struct Outbox {
 fn open_messages(client: &ClientEnd) -> u64 {
     match client.session() {
         Some(session) => {
-            let _capacity = session.sender.capacity();
-            let entries = u64::try_from(session.sender.entries().count()).unwrap_or(u64::MAX);
-            let released = u64::try_from(session.sender.released()).unwrap_or(u64::MAX);
-            entries.saturating_add(released)
+            let sender = &session.sender;
+            let free = sender.left().saturating_add(sender.pending().len());
+            let open = usize::from(sender.capacity()).saturating_sub(free);
+            u64::try_from(open).unwrap_or(u64::MAX)
         }
         None => 0,
     }
@@ -75,6 +75,7 @@ impl Outbox {
     /// An outbox of a client, whose session may have messages.
     pub(crate) fn new(client: &ClientEnd) -> Outbox
         ensures next { result.next ≡ None }
+        ensures ended { result.is_ended ≡ false }
         ensures unwritten { result.unwritten ≡ 0 }
         ensures lost { result.lost ≡ 0 }
     {
@@ -100,11 +101,14 @@ impl Outbox {
     // Takes the next message from the source unless there is one. Returns why there is none.
     fn refill<M: Source>(&mut self, source: &mut M) -> Result<Option<Filled>, RunError>
         ensures taken { OnOk result ((fresh : List Taken)
-            × Shows (M.given source.old) (M.given source.new) fresh
+            × Gives (M.coming source.old) (M.coming source.new) fresh
             × (option_to_list self.old.next ++ fresh ≡ option_to_list self.new.next)) }
-        ensures none { IfOk result (λ why. why ≡ Some Filled.Ended → self.new.next ≡ None) }
+        ensures none { IfOk result
+            (λ why. why ≡ Some Filled.Ended → IsLast self.new.next self.new.is_ended) }
         ensures unwritten { self.new.unwritten ≡ self.old.unwritten }
         ensures lost { self.new.lost ≡ self.old.lost }
+        ensures remembers { Remembers self.old.is_ended (M.ended source.old)
+            → Remembers self.new.is_ended (M.ended source.new) }
     {
         if self.next.is_some() {
             return Ok(None);
@@ -132,6 +136,7 @@ impl Outbox {
         ensures unwritten { self.new.unwritten ≡ 0 → self.old.unwritten ≡ 0 }
         ensures stored { self.new.unwritten ≡ 0 → is_q0 qos ≡ false }
         ensures lost { self.new.lost ≡ self.old.lost }
+        ensures ended { self.new.is_ended ≡ self.old.is_ended }
     {
         self.next = None;
         match qos {
@@ -148,6 +153,7 @@ impl Outbox {
         ensures published { Publishes peer.old peer.new self.old.next self.new.next
             self.old.unwritten self.new.unwritten }
         ensures lost { self.new.lost ≡ self.old.lost }
+        ensures ended { self.new.is_ended ≡ self.old.is_ended }
     {
         let Some(message) = &self.next else {
             return Ok(false);
@@ -170,11 +176,14 @@ impl Outbox {
         source: &mut M,
     ) -> Result<Option<Filled>, RunError>
         ensures ok { OnOk result (Fills peer.old peer.new self.old.next self.new.next
-            self.old.unwritten self.new.unwritten (M.given source.old) (M.given source.new)) }
+            self.old.unwritten self.new.unwritten (M.coming source.old) (M.coming source.new)) }
         ensures err { OnErr result ((messages : List Taken)
             × Went peer.old peer.new (map Publication messages) [] []) }
-        ensures none { IfOk result (λ why. why ≡ Some Filled.Ended → self.new.next ≡ None) }
+        ensures none { IfOk result
+            (λ why. why ≡ Some Filled.Ended → IsLast self.new.next self.new.is_ended) }
         ensures lost { self.new.lost ≡ self.old.lost }
+        ensures remembers { Remembers self.old.is_ended (M.ended source.old)
+            → Remembers self.new.is_ended (M.ended source.new) }
     {
         if !peer.is_up() {
             return Ok(Some(Filled::Blocked));
@@ -198,11 +207,14 @@ impl Outbox {
         source: &mut M,
     ) -> Result<Filled, RunError>
         ensures ok { OnOk result (Fills peer.old peer.new self.old.next self.new.next
-            self.old.unwritten self.new.unwritten (M.given source.old) (M.given source.new)) }
+            self.old.unwritten self.new.unwritten (M.coming source.old) (M.coming source.new)) }
         ensures err { OnErr result ((messages : List Taken)
             × Went peer.old peer.new (map Publication messages) [] []) }
-        ensures none { IfOk result (λ why. why ≡ Filled.Ended → self.new.next ≡ None) }
+        ensures none { IfOk result
+            (λ why. why ≡ Filled.Ended → IsLast self.new.next self.new.is_ended) }
         ensures lost { self.new.lost ≡ self.old.lost }
+        ensures remembers { Remembers self.old.is_ended (M.ended source.old)
+            → Remembers self.new.is_ended (M.ended source.new) }
     {
         for _ in 0..u64::MAX {
             if let Some(why) = self.add(peer, source)? {
@@ -216,6 +228,7 @@ impl Outbox {
     fn count_written(&mut self)
         ensures next { self.new.next ≡ self.old.next }
         ensures lost { self.new.lost ≡ self.old.lost }
+        ensures ended { self.new.is_ended ≡ self.old.is_ended }
     {
         self.accepted = self.accepted.saturating_add(self.unwritten);
         self.unwritten = 0;
@@ -226,6 +239,7 @@ impl Outbox {
         ensures next { self.new.next ≡ self.old.next }
         ensures lost { self.new.lost ≡ 0 → self.old.lost ≡ 0 }
         ensures unwritten { self.new.lost ≡ 0 → self.old.unwritten ≡ 0 }
+        ensures ended { self.new.is_ended ≡ self.old.is_ended }
     {
         self.lost = self.lost.saturating_add(self.unwritten);
         self.unwritten = 0;
@@ -240,6 +254,7 @@ impl Outbox {
         ensures all { OnOk result
             (Appends peer.old.written peer.new.written peer.old.client.link.output) }
         ensures next { self.new.next ≡ self.old.next }
+        ensures ended { self.new.is_ended ≡ self.old.is_ended }
         ensures written { OnOk result (self.new.lost ≡ self.old.lost) }
         ensures lost { OnErr result (self.new.lost ≡ 0 → self.old.lost ≡ 0) }
         ensures unwritten { OnErr result (self.new.lost ≡ 0 → self.old.unwritten ≡ 0) }

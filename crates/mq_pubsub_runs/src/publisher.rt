@@ -3,7 +3,7 @@
 ghost use Rattle.std.specs.Prelude.{◌≡◌, [], None, true, IfErr, IfOk, OnErr, OnOk};
 ghost use Rattle.mq_end.specs.End.{is_up};
 ghost use Rattle.mq_client.specs.Course.{IsIdle, Leaves, Moment};
-ghost use Rattle.mq_pubsub_runs.specs.Posting.{AllPosted, PartPosted, Posted, Progress, ProgressUntil, PublishEnds, StartsWith};
+ghost use Rattle.mq_pubsub_runs.specs.Posting.{AllPosted, IsLast, PartPosted, Posted, Progress, ProgressUntil, PublishEnds, Remembers, StartsWith};
 ghost use Rattle.mq_pubsub_runs.specs.Stops.{IsConnection};
 
 use crate::network::Network;
@@ -89,10 +89,13 @@ fn send<S: Stream, C: Clock, K: SessionSaver, M: Source>(
     outbox: &mut Outbox,
 ) -> Result<Filled, Stop>
     ensures ok { OnOk result (Progress peer.old peer.new outbox.old.next outbox.new.next
-        outbox.old.lost outbox.new.lost (M.given source.old) (M.given source.new)) }
+        outbox.old.lost outbox.new.lost (M.coming source.old) (M.coming source.new)) }
     ensures err { IfErr result (ProgressUntil peer.old peer.new outbox.old.next outbox.new.next
-        outbox.old.lost outbox.new.lost (M.given source.old) (M.given source.new)) }
-    ensures none { IfOk result (λ why. why ≡ Filled.Ended → outbox.new.next ≡ None) }
+        outbox.old.lost outbox.new.lost (M.coming source.old) (M.coming source.new)) }
+    ensures none { IfOk result
+        (λ why. why ≡ Filled.Ended → IsLast outbox.new.next outbox.new.is_ended) }
+    ensures remembers { Remembers outbox.old.is_ended (M.ended source.old)
+        → Remembers outbox.new.is_ended (M.ended source.new) }
 {
     let filled = match outbox.fill(peer, source) {
         Ok(filled) => filled,
@@ -137,8 +140,11 @@ fn publish_over<S: Stream, C: Clock, K: SessionSaver, N: Network<S, C>, M: Sourc
     clean: bool,
     redial: &mut Redial,
 ) -> Result<(), Stop>
-    ensures { PublishEnds peer.old peer.new outbox.old.next outbox.new.next
-        outbox.old.lost outbox.new.lost (M.given source.old) (M.given source.new) result }
+    ensures ends { PublishEnds peer.old peer.new outbox.old.next outbox.new.next
+        outbox.old.lost outbox.new.lost (M.coming source.old) (M.coming source.new) result }
+    ensures last { OnOk result (outbox.new.is_ended ≡ true) }
+    ensures remembers { Remembers outbox.old.is_ended (M.ended source.old)
+        → Remembers outbox.new.is_ended (M.ended source.new) }
 {
     open(peer, clean)?;
     for _ in 0..u64::MAX {
@@ -167,11 +173,14 @@ fn publish_once<S: Stream + Drop, C: Clock + Drop, K: SessionSaver, N: Network<S
     clean: bool,
     redial: &mut Redial,
 ) -> Sitting<K>
-    ensures { (a : Moment) × (b : Moment)
+    ensures ends { (a : Moment) × (b : Moment)
         × StartsWith a sitting.client (K.kept sitting.keeper)
         × StartsWith b result.client (K.kept result.keeper)
         × PublishEnds a b outbox.old.next outbox.new.next outbox.old.lost outbox.new.lost
-        (M.given source.old) (M.given source.new) result.end }
+        (M.coming source.old) (M.coming source.new) result.end }
+    ensures last { OnOk result.end (outbox.new.is_ended ≡ true) }
+    ensures remembers { Remembers outbox.old.is_ended (M.ended source.old)
+        → Remembers outbox.new.is_ended (M.ended source.new) }
 {
     redial.dialed();
     let mut peer = Peer::new(
@@ -199,11 +208,14 @@ fn publish_next<S: Stream + Drop, C: Clock + Drop, K: SessionSaver, N: Network<S
     clean: bool,
     redial: &mut Redial,
 ) -> Sitting<K>
-    ensures { (a : Moment) × (b : Moment)
+    ensures ends { (a : Moment) × (b : Moment)
         × StartsWith a sitting.client (K.kept sitting.keeper)
         × StartsWith b result.client (K.kept result.keeper)
         × PublishEnds a b outbox.old.next outbox.new.next outbox.old.lost outbox.new.lost
-        (M.given source.old) (M.given source.new) result.end }
+        (M.coming source.old) (M.coming source.new) result.end }
+    ensures last { OnOk result.end (outbox.new.is_ended ≡ true) }
+    ensures remembers { Remembers outbox.old.is_ended (M.ended source.old)
+        → Remembers outbox.new.is_ended (M.ended source.new) }
 {
     let Ok(connection) = network.dial() else {
         return Sitting {
@@ -248,10 +260,11 @@ pub fn publish<S: Stream + Drop, C: Clock + Drop, K: SessionSaver, N: Network<S,
 ) -> Published<K>
     ensures ok { OnOk result.end ((a : Moment) × (b : Moment)
         × StartsWith a client (K.kept keeper) × StartsWith b result.client (K.kept result.keeper)
-        × AllPosted a b (M.given source.old) (M.given source.new)) }
+        × AllPosted a b (M.coming source.old) (M.coming source.new)) }
     ensures err { OnErr result.end ((a : Moment) × (b : Moment)
         × StartsWith a client (K.kept keeper) × StartsWith b result.client (K.kept result.keeper)
         × PartPosted a b) }
+    ensures ended { OnOk result.end (M.ended source.new) }
 {
     let mut outbox = Outbox::new(&client);
     let mut redial = Redial::new(options.retry);

@@ -11,7 +11,7 @@ use mq_cli::{
 use mq_programs::{
     run_broker_command, run_client, run_draw, run_journal, run_loopback, run_password, run_serve,
 };
-use mq_pubsub_programs::{run_pub, run_sub};
+use mq_pubsub_programs::{publish_arguments, report_fault, run_pub, run_sub, subscribe_arguments};
 use std::fs::File;
 use std::io::{BufReader, BufWriter, Input, IsTerminal, Write};
 use std::net::{Net, TcpListener, TcpStream};
@@ -82,15 +82,30 @@ fn run_drawn(rt: &HostRuntime, draw: Draw<'_>) -> Result<u8, Failure> {
     Ok(status)
 }
 
+/// Runs `pub` with these arguments. `is_watched` means that standard error is a terminal.
+fn run_publisher(rt: &HostRuntime, words: &[&str], is_watched: bool) -> u8 {
+    match publish_arguments(rt, rt.alloc(), words) {
+        Ok(words) => run_pub(rt, rt.alloc(), &words, is_watched),
+        Err(fault) => report_fault(rt, "pub", fault),
+    }
+}
+
+/// Runs `sub` with these arguments.
+fn run_subscriber(rt: &HostRuntime, words: &[&str]) -> u8 {
+    match subscribe_arguments(rt, rt.alloc(), words) {
+        Ok(words) => run_sub(rt, rt.alloc(), &words),
+        Err(fault) => report_fault(rt, "sub", fault),
+    }
+}
+
 /// Runs `pub` or `sub`, whose options differ from those of the other commands, or prints the help
 /// of one. Returns the exit status, or `None` for another command.
 fn run_familiar(rt: &HostRuntime, words: &[&str]) -> Option<u8> {
-    let alloc = rt.alloc();
     match words {
-        [_, "pub", rest @ ..] => Some(run_pub(rt, alloc, rest, rt.stderr().is_terminal())),
-        [_, "sub", rest @ ..] => Some(run_sub(rt, alloc, rest)),
-        [_, "help", "pub"] => Some(run_pub(rt, alloc, &["--help"], false)),
-        [_, "help", "sub"] => Some(run_sub(rt, alloc, &["--help"])),
+        [_, "pub", rest @ ..] => Some(run_publisher(rt, rest, rt.stderr().is_terminal())),
+        [_, "sub", rest @ ..] => Some(run_subscriber(rt, rest)),
+        [_, "help", "pub"] => Some(run_publisher(rt, &["--help"], false)),
+        [_, "help", "sub"] => Some(run_subscriber(rt, &["--help"])),
         _ => None,
     }
 }
