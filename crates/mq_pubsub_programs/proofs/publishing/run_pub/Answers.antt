@@ -8,8 +8,8 @@ returns-in-Ok-clause-done g c zero = let end = c.in-Ok.ensures in status_ok end.
 pub returns-in-Ok-clause-status : goal.returns-in-Ok-clause-status
 returns-in-Ok-clause-status g c = let end = c.in-Ok.ensures in rw end.1 (status_known end.0)
 
-pub returns-clause-done : goal.returns-clause-done
-returns-clause-done g c zero = absurd (fault_fails _ (sym c.tell_fault.ensures ∙ zero))
+pub returns-in-Err-clause-done : goal.returns-in-Err-clause-done
+returns-in-Err-clause-done g c zero = absurd (fault_fails _ (sym c.tell_fault.ensures ∙ zero))
 
-pub returns-clause-status : goal.returns-clause-status
-returns-clause-status g c = rw c.tell_fault.ensures (fault_known _)
+pub returns-in-Err-clause-status : goal.returns-in-Err-clause-status
+returns-in-Err-clause-status g c = rw c.tell_fault.ensures (fault_known _)
