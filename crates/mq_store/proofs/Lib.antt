@@ -1,3 +1,5 @@
 mod Appends
 mod Configurations
+mod Lasting
+mod Owners
 mod Restores

@@ -2,7 +2,7 @@
 use Rattle.std.proofs.Common.{◌≡◌, ℕ, ◌+◌, ◌<◌, arith, List, [], ◌∷◌, ◌++◌, length, take, get_or, Vec, refl, sym, ap, ◌∙◌, subst, length-append, Result, Ok, Err, IfOk}
 use Rattle.std.proofs.lemmas.Grind.{flat_map-append}
 use Rattle.std.proofs.lemmas.List.{append-nil}
-use Rattle.std.specs.List.{flat_map}
+use Rattle.std.specs.List.{AllByRecursion, flat_map}
 use Rattle.mq_route.specs.declared.event.HubEvent.{HubEvent}
 use Rattle.mq_route.specs.Hub.{HubState}
 use Rattle.mq_log.specs.Blocks.{at_rest}
@@ -16,7 +16,7 @@ use Rattle.mq_durable.specs.State.{DurableState}
 use Rattle.mq_file.specs.declared.journal_file.JournalFile.{JournalFile}
 use Rattle.mq_file.specs.Files.{calls_of}
 use Rattle.mq_file.specs.History.{seen_after}
-use Rattle.mq_store.specs.Restoring.{IsOpened, IsRestored, IsResumed, events_of_all}
+use Rattle.mq_store.specs.Restoring.{IsOpened, IsRestored, IsResumed, MayBeLeft, events_of_all}
 
 -- ---- the number of events
 
@@ -45,14 +45,19 @@ latest_both time [] ys = refl
 latest_both time (x ∷ xs) ys = latest_both (later time x) xs ys
 
 pub restored_none : (hub : HubState) → IsRestored hub hub 0
-restored_none hub = record { files = []; replays = replays_none hub; clock = refl; count_is = refl }
+restored_none hub = record { files = []; undamaged = tt; replays = replays_none hub; clock = refl; count_is = refl }
+
+undamaged_more : (files : List (List ℕ)) (file : List ℕ) → AllByRecursion MayBeLeft files → MayBeLeft file → AllByRecursion MayBeLeft (files ++ file ∷ [])
+undamaged_more [] file all last = (last, tt)
+undamaged_more (first ∷ files) file all last = (all.0, undamaged_more files file all.1 last)
 
 pub restored_more : (old hub new : HubState) (count more : ℕ) (file : List ℕ) → IsRestored old hub count → Replays hub (events_of file) new
-    → new.clock ≡ latest hub.clock (events_of file) → more ≡ count + length (events_of file) → IsRestored old new more
-restored_more old hub new count more file first replays clock counted =
+    → new.clock ≡ latest hub.clock (events_of file) → more ≡ count + length (events_of file) → MayBeLeft file → IsRestored old new more
+restored_more old hub new count more file first replays clock counted left =
     let back = sym (all_push first.files file) in
     record {
       files = first.files ++ file ∷ [];
+      undamaged = undamaged_more first.files file first.undamaged left;
       replays = subst (λ (l : List HubEvent). Replays old l new) back
           (replays_all old hub new (events_of_all first.files) (events_of file) first.replays replays);
       clock = clock

@@ -1,8 +1,8 @@
 //! The configuration of a broker as bytes.
 
-ghost use Rattle.std.specs.Prelude.{◌≡◌, ◌≢◌, ◌++◌, ◌<◌, ◌≤◌, Err, drop, length, min, take, OnOk, IfErr, IfOk};
+ghost use Rattle.std.specs.Prelude.{◌≡◌, ◌≢◌, ◌++◌, ◌<◌, ◌≤◌, Err, length, OnOk, IfErr, IfOk};
 ghost use Rattle.mq_store.specs.Configuration.{bool_number, bound_bytes, config_bytes, hashed_bytes, hashed_table, hashed_users_bytes, limit_bytes, number_bytes, option_bytes, packet_bytes, text_bytes, user_bytes, user_table, users_bytes, when_full_number};
-ghost use Rattle.mq_store.specs.Restoring.{IsNoted};
+ghost use Rattle.mq_store.specs.Restoring.{IsNoted, digest_in, ends_in};
 ghost use Rattle.mq_store.specs.declared.fault.StoreError.TheVariants as errors;
 ghost use Rattle.sha2.specs.Sha256.{sha256};
 
@@ -200,11 +200,16 @@ pub(crate) fn check_digest(known: &[u8], digest: &[u8]) -> Result<(), StoreError
 
 /// Splits what a folder has about its journal into the digest of the configuration and the ends of
 /// the files.
+#[tactic(auto, using(crate::proofs::Owners::whole_digest, crate::proofs::Owners::no_ends))]
 pub(crate) fn split_owner(known: &[u8]) -> (&[u8], &[u8])
-    ensures digest { result.0.now ≡ take (min (length known.now) 32) known.now }
-    ensures ends { result.1.now ≡ drop (min (length known.now) 32) known.now }
+    ensures digest { result.0.now ≡ digest_in known.now }
+    ensures ends { result.1.now ≡ ends_in known.now }
 {
-    known.split_at(known.len().min(32))
+    if known.len() < 32 {
+        (known, &[])
+    } else {
+        known.split_at(32)
+    }
 }
 
 /// Checks the ends that a folder has against those of its files. A crash may leave the folder

@@ -59,6 +59,11 @@ impl From<AllocError> for StoreError {
 }
 
 impl From<FolderError> for StoreError {
+    ghost use Rattle.std.specs.Prelude.{◌≡◌};
+    ghost use Rattle.mq_store.specs.Faults.{of_folder};
+
+    ghost from_gives = { λ why error. error ≡ of_folder why };
+
     fn from(error: FolderError) -> Self {
         match error {
             FolderError::InUse => StoreError::InUse,
@@ -71,6 +76,11 @@ impl From<FolderError> for StoreError {
 }
 
 impl From<RecoverError> for StoreError {
+    ghost use Rattle.std.specs.Prelude.{◌≡◌};
+    ghost use Rattle.mq_store.specs.Faults.{of_recovery};
+
+    ghost from_gives = { λ why error. error ≡ of_recovery why };
+
     fn from(error: RecoverError) -> Self {
         match error {
             RecoverError::Damaged(_) => StoreError::Damaged,
@@ -83,6 +93,11 @@ impl From<RecoverError> for StoreError {
 }
 
 impl From<DiskError> for StoreError {
+    ghost use Rattle.std.specs.Prelude.{◌≡◌};
+    ghost use Rattle.mq_store.specs.Faults.{of_disk};
+
+    ghost from_gives = { λ why error. error ≡ of_disk why };
+
     fn from(error: DiskError) -> Self {
         match error {
             DiskError::Memory => StoreError::Memory,

@@ -1,7 +1,13 @@
 //! Printing a journal.
 
+ghost use Rattle.std.specs.Prelude.{◌≡◌, ◌≢◌, ◌↔◌, IfOk, IsTrue};
+ghost use Rattle.mq_log.specs.Blocks.{gate, rest, tail_of};
+ghost use Rattle.mq_durable.specs.Recorded.{AreReadable, events_in};
+ghost use Rattle.mq_record.specs.Reading.{IsEntry};
+ghost use Rattle.mq_store.specs.Restoring.{MayBeLeft, may_end};
+
 use mq_log::{Tail, read_journal};
-use mq_record::{RecordFault, decode_events};
+use mq_record::{RecordFault, decode_events, record_laws};
 use mq_route::{Conn, HubEvent};
 use std::alloc::Global;
 use std::io;
@@ -32,12 +38,16 @@ fn write_event<W: Write>(output: &mut W, event: &HubEvent) -> io::Result<()> {
 }
 
 // Prints an entry. Returns whether it is readable.
+#[tactic(auto, using(crate::proofs::Lasting::readable, crate::proofs::Lasting::unreadable))]
 fn write_entry<W: Write>(
     alloc: Global,
     output: &mut W,
     nth: usize,
     entry: &[u8],
-) -> io::Result<bool> {
+) -> io::Result<bool>
+    ensures { IfOk result (λ is. IsTrue is ↔ IsEntry (events_in entry.now) entry.now) }
+{
+    record_laws();
     let events = match decode_events(alloc, entry) {
         Ok(events) => events,
         Err(RecordFault::Memory) => return Err(io::Error::from(io::ErrorKind::OutOfMemory)),
@@ -54,27 +64,51 @@ fn write_entry<W: Write>(
     Ok(true)
 }
 
+// Prints entries. Returns whether each is readable.
+#[tactic(auto, using(crate::proofs::Lasting::more_readable, crate::proofs::Lasting::all_readable))]
+fn write_entries<W: Write>(alloc: Global, output: &mut W, entries: &[Vec<u8>]) -> io::Result<bool>
+    ensures { IfOk result (λ are. IsTrue are ↔ AreReadable entries.now) }
+{
+    let mut are_readable = true;
+    let mut nth = 0usize;
+    let mut rest = entries;
+    while let [entry, more @ ..] = rest {
+        nth = nth.saturating_add(1);
+        let is_readable = write_entry(alloc, output, nth, entry.as_slice())?;
+        are_readable = are_readable && is_readable;
+        rest = more;
+    }
+    Ok(are_readable)
+}
+
+// Whether a crash may leave a file that ends so.
+fn may_end(tail: Tail) -> bool
+    ensures { result ≡ may_end tail }
+{
+    match tail {
+        Tail::Closed | Tail::Torn => true,
+        Tail::CutShort | Tail::Damaged => false,
+    }
+}
+
+// Prints how a file ends.
+fn write_tail<W: Write>(output: &mut W, tail: Tail, end: usize) -> io::Result<()> {
+    match tail {
+        Tail::Closed => writeln!(output, "closed at {end}"),
+        Tail::Torn => writeln!(output, "torn at {end}"),
+        Tail::CutShort => writeln!(output, "cut short at {end}"),
+        Tail::Damaged => writeln!(output, "damaged at {end}"),
+    }
+}
+
 /// Prints the entries of a journal, one line per event, and how the file ends. Returns whether a
 /// crash may leave the file.
-pub fn list_journal<W: Write>(alloc: Global, bytes: &[u8], output: &mut W) -> io::Result<bool> {
+#[tactic(auto, using(crate::proofs::Lasting::may_be_left))]
+pub fn list_journal<W: Write>(alloc: Global, bytes: &[u8], output: &mut W) -> io::Result<bool>
+    ensures { IfOk result (λ may. IsTrue may ↔ MayBeLeft bytes.now) }
+{
     let contents = read_journal(alloc, bytes)?;
-    let mut is_whole = true;
-    let mut nth = 0usize;
-    for entry in contents.entries.as_slice() {
-        nth = nth.saturating_add(1);
-        if !write_entry(alloc, output, nth, entry.as_slice())? {
-            is_whole = false;
-        }
-    }
-    let end = contents.end;
-    match contents.tail {
-        Tail::Closed => writeln!(output, "closed at {end}")?,
-        Tail::Torn => writeln!(output, "torn at {end}")?,
-        Tail::CutShort => writeln!(output, "cut short at {end}")?,
-        Tail::Damaged => writeln!(output, "damaged at {end}")?,
-    }
-    match contents.tail {
-        Tail::Closed | Tail::Torn => Ok(is_whole),
-        Tail::CutShort | Tail::Damaged => Ok(false),
-    }
+    let are_readable = write_entries(alloc, output, contents.entries.as_slice())?;
+    write_tail(output, contents.tail, contents.end)?;
+    Ok(are_readable && may_end(contents.tail))
 }

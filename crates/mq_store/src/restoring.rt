@@ -1,13 +1,13 @@
 //! Restoring a broker from the files of its journal.
 
-ghost use Rattle.std.specs.Prelude.{◌≡◌, ◌+◌, ◌++◌, ℕ, [], length, IfOk};
+ghost use Rattle.std.specs.Prelude.{◌≡◌, ◌+◌, ◌++◌, ℕ, [], length, IfOk, OnOk};
 ghost use Rattle.mq_log.specs.Blocks.{entries};
 ghost use Rattle.mq_log.specs.Disk.{LeavesOnly, Only};
 ghost use Rattle.mq_durable.specs.Recorded.{events_in, events_in_all, events_of};
 ghost use Rattle.mq_durable.specs.Recovering.{latest};
 ghost use Rattle.mq_durable.specs.Replaying.{Replays};
 ghost use Rattle.mq_store.specs.Configuration.{number_bytes};
-ghost use Rattle.mq_store.specs.Restoring.{IsEndOf, IsResumed};
+ghost use Rattle.mq_store.specs.Restoring.{IsEndOf, IsResumed, MayBeLeft};
 
 use crate::configuration::put_number;
 use crate::fault::StoreError;
@@ -73,6 +73,7 @@ impl Replayed {
         ensures events { IfOk result (λ new. new.events ≡ self.events + length (events_of file.now)) }
         ensures ends { IfOk result (λ new. (end : ℕ) × IsEndOf end file.now
             × (new.ends.items ≡ self.ends.items ++ number_bytes end)) }
+        ensures undamaged { OnOk result (MayBeLeft file.now) }
     {
         let Replayed {
             recovery,

@@ -1,10 +1,12 @@
 //! Opening a store.
 
-ghost use Rattle.std.specs.Prelude.{◌≡◌, ◌<◌, [], IfOk, IfSome};
+ghost use Rattle.std.specs.Prelude.{◌≡◌, ◌<◌, [], IfOk, IfSome, OnOk};
+ghost use Rattle.sha2.specs.Sha256.{sha256};
 ghost use Rattle.mq_file.specs.Files.{calls_of};
 ghost use Rattle.mq_file.specs.History.{seen_after};
 ghost use Rattle.mq_route.specs.Hub.{new_hub};
-ghost use Rattle.mq_store.specs.Restoring.{IsOpened, IsRestored, IsResumed};
+ghost use Rattle.mq_store.specs.Configuration.{config_bytes};
+ghost use Rattle.mq_store.specs.Restoring.{IsNoted, IsOpened, IsRestored, IsResumed, digest_in, ends_in};
 
 use crate::configuration::{check_digest, check_ends, digest_of, split_owner};
 use crate::fault::StoreError;
@@ -63,6 +65,24 @@ fn set_owner<R: Files<File = File>>(
     Ok(())
 }
 
+// Returns the content of the file `configuration`. If the folder has no journal, the file gets this
+// digest first.
+fn owner_or_new<R: Files<File = File>>(
+    rt: &R,
+    alloc: Global,
+    folder: &Folder,
+    path: &str,
+    digest: &[u8],
+) -> Result<Vec<u8>, StoreError> {
+    let known = read_owner(rt, alloc, path)?;
+    let first = file_name(alloc, path, 1)?;
+    if known.len() <= digest.len() && !has_file(rt, first.as_str())? {
+        set_owner(rt, alloc, folder, path, digest)?;
+        return Ok(digest.to_vec(alloc)?);
+    }
+    Ok(known)
+}
+
 // Checks that the folder belongs to a configuration, and returns the content of its file
 // `configuration`. A folder without a journal belongs to the configuration afterwards.
 fn claim<R: Files<File = File>>(
@@ -71,14 +91,11 @@ fn claim<R: Files<File = File>>(
     folder: &Folder,
     path: &str,
     config: &HubConfig,
-) -> Result<Vec<u8>, StoreError> {
+) -> Result<Vec<u8>, StoreError>
+    ensures { IfOk result (λ known. digest_in known.items ≡ sha256 (config_bytes config.now)) }
+{
     let digest = digest_of(alloc, config)?;
-    let known = read_owner(rt, alloc, path)?;
-    let first = file_name(alloc, path, 1)?;
-    if known.len() <= digest.len() && !has_file(rt, first.as_str())? {
-        set_owner(rt, alloc, folder, path, &digest)?;
-        return Ok(digest.to_vec(alloc)?);
-    }
+    let known = owner_or_new(rt, alloc, folder, path, &digest)?;
     check_digest(split_owner(known.as_slice()).0, &digest)?;
     Ok(known)
 }
@@ -92,7 +109,9 @@ fn note_ends<R: Files<File = File>>(
     path: &str,
     known: &[u8],
     ends: &[u8],
-) -> Result<(), StoreError> {
+) -> Result<(), StoreError>
+    ensures { OnOk result (IsNoted (ends_in known.now) ends.now) }
+{
     let (digest, known_ends) = split_owner(known);
     check_ends(known_ends, ends)?;
     let mut owner = digest.to_vec(alloc)?;
@@ -138,7 +157,8 @@ fn next_file<R: Files<File = File>>(
     nth: u64,
     keep: Keep,
 ) -> Result<JournalFile, StoreError>
-    ensures { IfOk result (λ file. calls_of file ≡ []) }
+    ensures empty { IfOk result (λ file. calls_of file ≡ []) }
+    ensures noted { OnOk result (IsNoted (ends_in known.now) ends.now) }
 {
     let behind = file_name(alloc, path, nth.saturating_add(1))?;
     if has_file(rt, behind.as_str())? {

@@ -13,4 +13,4 @@ pub loop-nth-preserved : goal.loop-nth-preserved
 loop-nth-preserved g c =
     restored_more (new_hub c.args.config) c.loop-nth.replayed.recovery c.in_ok-replayed.replayed.recovery
     c.loop-nth.replayed.events c.in_ok-replayed.replayed.events c.as_slice.result.now
-    c.loop-nth.invariant c.in_ok-replayed.ensures.broker c.in_ok-replayed.ensures.clock c.in_ok-replayed.ensures.events
+    c.loop-nth.invariant c.in_ok-replayed.ensures.broker c.in_ok-replayed.ensures.clock c.in_ok-replayed.ensures.events c.in_ok-replayed.ensures.undamaged
