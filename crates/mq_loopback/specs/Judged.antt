@@ -1,7 +1,8 @@
 -- The verdict on a journal and on receipts.
-use Rattle.std.specs.Prelude.{◌≡◌, ◌⊎◌, ◌↔◌, Bool, false, IsTrue, List, map, Vec}
+use Rattle.std.specs.Prelude.{◌≡◌, ◌⊎◌, ◌↔◌, ℕ, Bool, false, IsTrue, List, map, Vec, vec_len}
 use Rattle.std.specs.List.{AllByRecursion}
 use Rattle.std.specs.declared.alloc.Global.{Global}
+use Rattle.mq_packet.specs.declared.message.Message.{Message}
 use Rattle.mq_route.specs.declared.config.HubConfig.{HubConfig}
 use Rattle.mq_route.specs.declared.event.HubEvent.{HubEvent}
 use Rattle.mq_route.specs.declared.refusal.HubRefusal.{HubRefusal}
@@ -43,6 +44,11 @@ IsReplayed config entries equal = IsReplay config entries equal ⊎ IsBroken con
 -- The receipts of each worker are in the journal, in order.
 abbrev pub AllStand : Sealed → List (Vec Receipt Global) → Type 0
 AllStand journal receipts = AllByRecursion (λ r. Stand journal.first journal.entries 0 r.items) receipts
+
+-- The result of a run has the messages of each client, and the receipts of as many workers.
+pub record IsWhole (clients : ℕ) (collected : Vec (Vec Message Global) Global) (receipts : Vec (Vec Receipt Global) Global) : Type 0 where
+  pub each : vec_len collected ≡ clients
+  pub workers : vec_len receipts ≡ clients
 
 -- The verdict on a journal and on the receipts of workers.
 pub record IsVerdict (config : HubConfig) (journal : Sealed) (receipts : List (Vec Receipt Global)) (v : Verdict) : Type 0 where
