@@ -1,6 +1,7 @@
 //! The broker of an event loop, with a journal.
 
-ghost use Rattle.std.specs.Prelude.{◌==◌, length, true};
+ghost use Rattle.std.specs.Prelude.{◌==◌, ◌≡◌, length, true};
+ghost use Rattle.mq_broker.specs.Failures.{commit_failure, hub_refusal};
 
 use mq_durable::{CommitError, Durable, StepRefusal};
 use mq_hub::Hub;
@@ -13,14 +14,18 @@ use mq_route::{Conn, HubEvent, HubRefusal, HubReply};
 pub(crate) struct Kept<D: Disk>(pub(crate) Durable<D>);
 
 // Why the broker made no step. A commit reports an earlier failure, and an entry that is full.
-fn hub_refusal(why: StepRefusal) -> HubRefusal {
+fn hub_refusal(why: StepRefusal) -> HubRefusal
+    ensures { result ≡ hub_refusal why }
+{
     match why {
         StepRefusal::Hub(why) => why,
         StepRefusal::EntryFull | StepRefusal::Broken => HubRefusal::Memory,
     }
 }
 
-fn commit_failure(error: CommitError) -> CommitFailure {
+fn commit_failure(error: CommitError) -> CommitFailure
+    ensures { result ≡ commit_failure error }
+{
     match error {
         CommitError::OutOfMemory | CommitError::Disk(DiskError::Memory) => CommitFailure::Memory,
         CommitError::Disk(DiskError::Full) => CommitFailure::Full,

@@ -1,6 +1,6 @@
 //! The loop of a broker over sockets.
 
-ghost use Rattle.std.specs.Prelude.{◌≡◌, ◌≢◌, ◌↔◌, IfErr};
+ghost use Rattle.std.specs.Prelude.{◌≡◌, ◌≢◌, ◌↔◌, ◌-◌, IfErr, max, option_map};
 ghost use Rattle.mq_broker.specs.End.{IsPacketLimit};
 ghost use Rattle.mq_broker.specs.declared.end.BrokerEnd.TheVariants.{PacketLimit};
 ghost use Rattle.mq_loop.specs.Rounds.{IsReached};
@@ -292,7 +292,9 @@ impl<B: Broker + Drop, L: Write + Drop> Server<B, L> {
 }
 
 // The time until a deadline, but at least that between two ticks, in milliseconds.
-fn rest_until(deadline: Option<u64>, now: u64) -> Option<u64> {
+fn rest_until(deadline: Option<u64>, now: u64) -> Option<u64>
+    ensures { result ≡ option_map (λ at. max (at - now) 100) deadline }
+{
     let deadline = deadline?;
     Some(deadline.saturating_sub(now).max(RETRY))
 }
