@@ -1,2 +1,4 @@
 mod Ends
+mod Journals
 mod Runs
+mod Servings

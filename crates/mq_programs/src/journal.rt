@@ -1,7 +1,7 @@
 //! The command `journal`.
 
-ghost use Rattle.std.specs.Prelude.{◌≡◌, ◌⊎◌, ◌↔◌, true, IfOk};
-ghost use Rattle.mq_programs.specs.Journal.{IsBegun};
+ghost use Rattle.std.specs.Prelude.{◌≡◌, ◌⊎◌, ◌↔◌, ℕ, List, true, IfOk};
+ghost use Rattle.mq_programs.specs.Journal.{IsBegun, IsListed};
 
 use mq_cli::Failure;
 use mq_store::list_journal;
@@ -25,6 +25,25 @@ fn read_file<R: Files<File = File>>(rt: &R, alloc: Global, name: &str) -> io::Re
     Ok(bytes)
 }
 
+// Prints the entries of a file with these bytes, and how it ends. Returns the status.
+#[tactic(auto, using(crate::proofs::Journals::begun, crate::proofs::Journals::no_journal))]
+fn list_bytes<E: Write, W: Write>(
+    alloc: Global,
+    name: &str,
+    bytes: &[u8],
+    errors: &mut E,
+    output: &mut W,
+) -> Result<u8, Failure>
+    ensures { IfOk result (IsListed bytes.now) }
+{
+    if !is_begun(bytes) {
+        let _ = writeln!(errors, "mqtt: '{name}' is not the journal of a broker");
+        return Ok(1);
+    }
+    let may_be_left = list_journal(alloc, bytes, output)?;
+    Ok(if may_be_left { 0 } else { 1 })
+}
+
 /// Prints the entries of a journal, and how its file ends.
 ///
 /// Returns the status: 0 if a crash may leave the file, otherwise 1, also if it can't be read or is
@@ -36,7 +55,7 @@ pub fn run_journal<R: Files<File = File>, E: Write, W: Write>(
     errors: &mut E,
     output: &mut W,
 ) -> Result<u8, Failure>
-    ensures { IfOk result (λ status. (status ≡ 0) ⊎ (status ≡ 1)) }
+    ensures { IfOk result (λ status. (status ≡ 1) ⊎ ((bytes : List ℕ) × IsListed bytes status)) }
 {
     let bytes = match read_file(rt, alloc, name) {
         Ok(bytes) => bytes,
@@ -47,10 +66,5 @@ pub fn run_journal<R: Files<File = File>, E: Write, W: Write>(
             return Ok(1);
         }
     };
-    if !is_begun(bytes.as_slice()) {
-        let _ = writeln!(errors, "mqtt: '{name}' is not the journal of a broker");
-        return Ok(1);
-    }
-    let may_be_left = list_journal(alloc, bytes.as_slice(), output)?;
-    Ok(if may_be_left { 0 } else { 1 })
+    list_bytes(alloc, name, bytes.as_slice(), errors, output)
 }
