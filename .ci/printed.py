@@ -32,6 +32,7 @@ SHOWN = [
     ("101300044d51545404800000000225410003752575", 0, "CONNECT id=%25A clean=0 keep=0 user=u%25u\n"),
     ("30070003612f626869", 0, "PUBLISH topic=a/b qos=0 dup=0 retain=0 payload=6869\n"),
     ("3c090003612f6200016869", 0, "PUBLISH topic=a/b qos=2 dup=1 retain=0 id=1 payload=6869\n"),
+    ("3c090003612f6201026869", 0, "PUBLISH topic=a/b qos=2 dup=1 retain=0 id=258 payload=6869\n"),
     ("33050001740007", 0, "PUBLISH topic=t qos=1 dup=0 retain=1 id=7 payload=\n"),
     ("30050003efbbbf", 0, "PUBLISH topic=%ef%bb%bf qos=0 dup=0 retain=0 payload=\n"),
     ("300700052120207e7f", 0, "PUBLISH topic=!%20%20~%7f qos=0 dup=0 retain=0 payload=\n"),
