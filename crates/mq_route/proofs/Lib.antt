@@ -30,3 +30,6 @@ mod PendingOutput
 mod Bounds
 mod Remaining
 mod Expiring
+mod Codes
+mod SessionCodes
+mod Snapshots

@@ -12,6 +12,7 @@ ghost use Rattle.mq_route.specs.Laws.{OutputLaws, RoutingLaws, TakingLaws};
 ghost use Rattle.mq_route.specs.Names.{NameLaws};
 ghost use Rattle.mq_route.specs.Reading.{ReadLaws};
 ghost use Rattle.mq_route.specs.Silent.{SilentLaws};
+ghost use Rattle.mq_route.specs.Snapshot.{SnapshotLaws};
 
 use mq_end::sound_laws;
 use mq_flow::{identifier_laws, next_laws};
@@ -109,6 +110,11 @@ pub fn client_laws()
 {
     store_laws();
 }
+
+/// A snapshot determines a broker without connections, apart from its configuration (3.1.2.4, 4.1).
+pub fn snapshot_laws()
+    ensures { SnapshotLaws }
+{}
 
 /// Worked runs, with their acts and pending output.
 pub fn examples()
