@@ -21,6 +21,7 @@ mod publish;
 mod retained;
 mod run;
 mod sessions;
+mod snapshot;
 mod step;
 mod subscribe;
 mod subscriptions;
