@@ -20,4 +20,4 @@
 
 mod write;
 
-pub use crate::write::{put_eight, put_message, put_row, put_session, put_signature};
+pub use crate::write::{put_eight, put_message, put_rows, put_session, put_signature};

@@ -6,7 +6,7 @@ ghost use Rattle.mq_wire.specs.Text.{counted};
 ghost use Rattle.mq_topic.specs.Rows.{Row};
 ghost use Rattle.mq_flow.specs.Saved.{count, saved_payload, signature as session_signature};
 ghost use Rattle.mq_route.specs.Hub.{HubSession};
-ghost use Rattle.mq_route.specs.Snapshot.{eight, saved_end, saved_message, saved_row, saved_session, signature};
+ghost use Rattle.mq_route.specs.Snapshot.{eight, listed, saved_end, saved_message, saved_row, saved_session, signature};
 
 use mq_end::ServerEnd;
 use mq_packet::{Message, Payload};
@@ -62,14 +62,26 @@ fn put_payload(out: &mut Vec<u8>, payload: &Payload) -> Result<(), AllocError>
     out.extend_from_slice(bytes)
 }
 
-/// Appends a subscription (3.8.4).
+// Appends a subscription.
 #[tactic(auto, unfolding(mq_route::specs::Snapshot::saved_row), using(std::proofs::Common::append_assoc))]
-pub fn put_row(out: &mut Vec<u8>, row: &((ClientKey, TopicFilter), Qos)) -> Result<(), AllocError>
+fn put_row(out: &mut Vec<u8>, row: &((ClientKey, TopicFilter), Qos)) -> Result<(), AllocError>
     ensures { OnOk result (out.new.items ≡ out.old.items ++ saved_row row.now) }
 {
     put_count(out, row.0.0.get())?;
     put_text(out, row.0.1.as_str())?;
     out.extend_from_slice(&[row.1.number()])
+}
+
+/// Appends the number of subscriptions, and the subscriptions (3.8.4).
+#[tactic(auto, using(std::proofs::Common::append_assoc))]
+pub fn put_rows(out: &mut Vec<u8>, rows: &[((ClientKey, TopicFilter), Qos)]) -> Result<(), AllocError>
+    ensures { OnOk result (out.new.items ≡ out.old.items ++ listed saved_row rows.now) }
+{
+    put_eight(out, rows.len() as u64)?;
+    for row in rows {
+        put_row(out, row)?;
+    }
+    Ok(())
 }
 
 /// Appends a retained message (3.3.1.3).
