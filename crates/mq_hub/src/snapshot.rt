@@ -11,7 +11,10 @@ use std::alloc::AllocError;
 impl<S: FilterStore> HubOver<S> {
     // Returns the snapshot of the broker. These rows must be those of the store.
     #[tactic(auto, unfolding(mq_route::specs::Snapshot::snapshot), using(std::proofs::Common::append_assoc))]
-    pub(crate) fn save_with(&self, rows: &[((ClientKey, TopicFilter), Qos)]) -> Result<Vec<u8>, AllocError>
+    pub(crate) fn save_with(
+        &self,
+        rows: &[((ClientKey, TopicFilter), Qos)],
+    ) -> Result<Vec<u8>, AllocError>
         requires { rows.now ≡ self.now.rows }
         ensures { IfOk result (λ bytes. bytes.items ≡ snapshot self.now) }
     {

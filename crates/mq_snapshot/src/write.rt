@@ -74,7 +74,10 @@ fn put_row(out: &mut Vec<u8>, row: &((ClientKey, TopicFilter), Qos)) -> Result<(
 
 /// Appends the number of subscriptions, and the subscriptions (3.8.4).
 #[tactic(auto, using(std::proofs::Common::append_assoc))]
-pub fn put_rows(out: &mut Vec<u8>, rows: &[((ClientKey, TopicFilter), Qos)]) -> Result<(), AllocError>
+pub fn put_rows(
+    out: &mut Vec<u8>,
+    rows: &[((ClientKey, TopicFilter), Qos)],
+) -> Result<(), AllocError>
     ensures { OnOk result (out.new.items ≡ out.old.items ++ listed saved_row rows.now) }
 {
     put_eight(out, rows.len() as u64)?;
