@@ -62,4 +62,4 @@ pub mod ExpiredSessions
 pub mod Spaces
 pub mod FittingMessages
 pub mod PendingLengths
-mod SavedSessions
+pub mod SavedSessions

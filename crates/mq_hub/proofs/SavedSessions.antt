@@ -1,14 +1,31 @@
--- Sessions that fit the connections are known.
-use Rattle.std.proofs.Common.{◌≡◌, true, List, All}
-use Rattle.std.specs.List.{AllByRecursion}
+-- Sessions in a snapshot.
+use Rattle.std.proofs.Common.{◌≡◌, true, ℕ, List, [], ◌∷◌, ◌++◌, length, All, refl, sym, ◌∙◌, append_assoc}
+use Rattle.std.specs.List.{flat_map, AllByRecursion}
+use Rattle.std.proofs.lemmas.List.{length-map}
 use Rattle.std.proofs.lemmas.List.Elements.{All-from_recursion, All-weaker}
 use Rattle.mq_route.specs.declared.config.HubConfig.{HubConfig}
 use Rattle.mq_route.specs.Hub.{HubConnection}
+use Rattle.mq_route.specs.Snapshot.{eight, listed, saved_session}
 use Rattle.mq_hub.specs.declared.sessions.session.BrokerSession.{BrokerSession}
 use Rattle.mq_hub.specs.Inside.Invariant.{SessionMatchesConnection}
+use Rattle.mq_hub.specs.Inside.Sessions.{session_of, sessions_of}
 
+-- sessions that fit the connections are known
 pub all_known : (config : HubConfig) (xs : List HubConnection) (ts : List BrokerSession) → AllByRecursion (SessionMatchesConnection config xs) ts
     → All (λ (t : BrokerSession). t.end.end.known ≡ true) ts
 all_known config xs ts all =
     All-weaker (SessionMatchesConnection config xs) (λ (t : BrokerSession). t.end.end.known ≡ true) (λ t fits. fits.known) ts
     (All-from_recursion (SessionMatchesConnection config xs) ts all)
+
+abbrev pub saved_by : BrokerSession → List ℕ
+saved_by t = saved_session (session_of t)
+
+each_saved : (ts : List BrokerSession) → flat_map saved_by ts ≡ flat_map saved_session (sessions_of ts)
+each_saved [] = refl
+each_saved (t ∷ ts) = λ i. saved_by t ++ each_saved ts i
+
+-- the number of the sessions, and the bytes of each
+pub all_saved : (front : List ℕ) (ts : List BrokerSession) → (front ++ eight (length ts)) ++ flat_map saved_by ts ≡ front ++ listed saved_session (sessions_of ts)
+all_saved front ts =
+    append_assoc front (eight (length ts)) (flat_map saved_by ts)
+    ∙ λ i. front ++ (eight (sym (length-map ts session_of) i) ++ each_saved ts i)
