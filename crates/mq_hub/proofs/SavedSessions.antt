@@ -1,22 +1,12 @@
 -- Sessions in a snapshot.
-use Rattle.std.proofs.Common.{◌≡◌, true, ℕ, List, [], ◌∷◌, ◌++◌, length, All, refl, sym, ◌∙◌, append_assoc}
-use Rattle.std.specs.List.{flat_map, AllByRecursion}
+use Rattle.std.proofs.Common.{◌≡◌, ℕ, List, [], ◌∷◌, ◌++◌, length, refl, sym, ◌∙◌, append_assoc}
+use Rattle.std.specs.List.{flat_map}
 use Rattle.std.proofs.lemmas.List.{length-map}
-use Rattle.std.proofs.lemmas.List.Elements.{All-from_recursion, All-weaker}
-use Rattle.mq_route.specs.declared.config.HubConfig.{HubConfig}
-use Rattle.mq_route.specs.Hub.{HubConnection}
 use Rattle.mq_route.specs.Snapshot.{eight, listed, saved_session}
 use Rattle.mq_hub.specs.declared.sessions.session.BrokerSession.{BrokerSession}
-use Rattle.mq_hub.specs.Inside.Invariant.{SessionMatchesConnection}
 use Rattle.mq_hub.specs.Inside.Sessions.{session_of, sessions_of}
 
--- sessions that fit the connections are known
-pub all_known : (config : HubConfig) (xs : List HubConnection) (ts : List BrokerSession) → AllByRecursion (SessionMatchesConnection config xs) ts
-    → All (λ (t : BrokerSession). t.end.end.known ≡ true) ts
-all_known config xs ts all =
-    All-weaker (SessionMatchesConnection config xs) (λ (t : BrokerSession). t.end.end.known ≡ true) (λ t fits. fits.known) ts
-    (All-from_recursion (SessionMatchesConnection config xs) ts all)
-
+-- the bytes of a session of the table
 abbrev pub saved_by : BrokerSession → List ℕ
 saved_by t = saved_session (session_of t)
 
