@@ -18,6 +18,12 @@
 //! A call that allocates returns a `Result`; other calls never allocate.
 #![tactic(auto)]
 
+mod fault;
+mod read;
 mod write;
 
+pub use crate::fault::SnapshotFault;
+pub use crate::read::{
+    SavedSession, read_eight, read_message, read_rows, read_session, read_signature,
+};
 pub use crate::write::{put_eight, put_message, put_rows, put_session, put_signature};
