@@ -62,3 +62,4 @@ pub mod ExpiredSessions
 pub mod Spaces
 pub mod FittingMessages
 pub mod PendingLengths
+pub mod SavedSessions

@@ -5,16 +5,13 @@ ghost use Rattle.mq_route.specs.Snapshot.{snapshot};
 
 use crate::hub::HubOver;
 use mq_snapshot::{put_eight, put_rows, put_signature};
-use mq_topic::{ClientKey, FilterStore, Qos, TopicFilter};
+use mq_topic::{FilterStore, StoreRow};
 use std::alloc::AllocError;
 
 impl<S: FilterStore> HubOver<S> {
     // Returns the snapshot of the broker. These rows must be those of the store.
     #[tactic(auto, unfolding(mq_route::specs::Snapshot::snapshot), using(std::proofs::Common::append_assoc))]
-    pub(crate) fn save_with(
-        &self,
-        rows: &[((ClientKey, TopicFilter), Qos)],
-    ) -> Result<Vec<u8>, AllocError>
+    fn save_with(&self, rows: &[StoreRow]) -> Result<Vec<u8>, AllocError>
         requires { rows.now ≡ self.now.rows }
         ensures { IfOk result (λ bytes. bytes.items ≡ snapshot self.now) }
     {
@@ -26,5 +23,15 @@ impl<S: FilterStore> HubOver<S> {
         self.tables.retained.save(&mut out)?;
         self.tables.sessions.save(self.alloc, &mut out)?;
         Ok(out)
+    }
+
+    /// Returns the snapshot of the broker (3.1.2.4, 4.1): clock, next key, subscriptions, retained
+    /// messages and sessions. It has neither the configuration nor the connections. The cost is
+    /// linear in its size.
+    pub fn save(&self) -> Result<Vec<u8>, AllocError>
+        ensures { IfOk result (λ bytes. bytes.items ≡ snapshot self.now) }
+    {
+        let rows = self.tables.store.list()?;
+        self.save_with(rows.as_slice())
     }
 }

@@ -24,7 +24,6 @@ fn save_one(alloc: Global, session: &BrokerSession, out: &mut Vec<u8>) -> Result
 }
 
 // Appends the number of sessions, and the sessions.
-#[tactic(auto, using(std::proofs::Common::append_assoc))]
 fn save_all(alloc: Global, list: &[BoxedSession], out: &mut Vec<u8>) -> Result<(), AllocError>
     requires { All (λ t. t.end.end.known ≡ true) list.now }
     ensures { OnOk result (out.new.items ≡ out.old.items ++ listed saved_session (sessions_of list.now)) }
