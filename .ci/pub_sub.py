@@ -865,7 +865,7 @@ class Killed(threading.Thread):
 
 
 def publish_killed(room, words, lines, places, witness):
-    """Publishes lines by `pub` with a session file, and kills it each time that so many have arrived."""
+    """Publishes lines by `pub` with a session file, and kills it after each number of arrivals."""
     for place in places:
         running = room.start([*words, "-l"], b"".join(lines[len(witness.found):]))
         witness.until(place, lambda: running.process.poll() is None)

@@ -71,7 +71,7 @@ fn given_up_of(
     Ok(some_of(given_up))
 }
 
-// What is requested.
+// The requests of a run.
 #[derive(Drop)]
 struct Wishes {
     requests: Option<NonEmpty<Request>>,

@@ -119,7 +119,7 @@ pub record AllPosted (a b : Moment) (coming left : Option (List Message)) : Type
   pub idle : IsIdle last.client.link.end
   pub leaves : Leaves last b
 
--- A publisher has published what it took from its source, and the source has no message any more.
+-- No message is left to publish: none was taken from the source, and it has ended.
 abbrev pub IsLast : Option Message → Bool → Type 0
 IsLast next is_ended = (next ≡ None) × (is_ended ≡ true)
 

@@ -22,7 +22,7 @@ pub unreadable : (laws : RecordLaws) (fault : RecordFault) (entry : List ℕ) �
 unreadable laws fault entry stops =
     ((λ no. absurd (cc no)), (λ whole. absurd (laws.no_fault (events_in entry) fault entry whole stops)))
 
--- the entries so far are readable, and all are if the rest is
+-- all entries are readable exactly if those already read are, and the rest
 abbrev pub AreSoFar : Bool → List (Vec ℕ Global) → List (Vec ℕ Global) → Type 0
 AreSoFar are rest all = (IsTrue are × AreReadable rest) ↔ AreReadable all
 
