@@ -1,14 +1,16 @@
 //! The rows of a store, indexed by client.
 
-ghost use Rattle.std.specs.Prelude.{◌≡◌, ◌-◌, ◌^◌, length, min, [], ℕ, List, None, MatchOption, OnOk, OnErr};
+ghost use Rattle.std.specs.Prelude.{◌≡◌, ◌++◌, ◌-◌, ◌^◌, length, min, [], ℕ, List, None, MatchOption, IfOk, OnOk, OnErr};
 ghost use Rattle.std.specs.FinMap.{find};
 ghost use Rattle.std.specs.Ordering.{nat_cmp};
 ghost use Rattle.std.specs.Cmp.Lexicographic.{slice_cmp};
+ghost use Rattle.mq_topic.specs.ClientRows.{own_rows};
 ghost use Rattle.mq_topic.specs.Rows.{IsAscending, row_qos, with_row, without_client, without_row};
 
 use crate::client::ClientKey;
 use crate::filter::TopicFilter;
 use crate::qos::Qos;
+use crate::store::StoreRow;
 use std::alloc::{AllocError, Global};
 use std::collections::BTreeMap;
 use std::marker::Model;
@@ -89,6 +91,18 @@ impl ClientRows {
         count
     }
 
+    /// Returns all rows in ascending order.
+    pub(crate) fn list(&self) -> Result<Vec<StoreRow>, AllocError>
+        ensures value { IfOk result (λ list. list.items ≡ self.now) }
+        ensures ascending { IsAscending self.now }
+    {
+        let mut list = Vec::with_capacity(self.alloc, self.len())?;
+        for (client, own) in self.clients.iter() {
+            list_own(&mut list, *client, own)?;
+        }
+        Ok(list)
+    }
+
     /// Removes the row of a client and a filter.
     pub(crate) fn remove(&mut self, client: ClientKey, filter: &TopicFilter)
         ensures { self.new ≡ without_row client filter.now self.old }
@@ -110,4 +124,14 @@ impl ClientRows {
     {
         self.clients.remove(&client)
     }
+}
+
+// Appends the rows of one client.
+fn list_own(list: &mut Vec<StoreRow>, client: ClientKey, own: &OwnRows) -> Result<(), AllocError>
+    ensures { OnOk result (list.new.items ≡ list.old.items ++ own_rows client own.now.entries) }
+{
+    for (filter, qos) in own.iter() {
+        list.push(((client, filter.clone()?), *qos))?;
+    }
+    Ok(())
 }

@@ -31,5 +31,5 @@ pub use crate::list_store::ListStore;
 pub use crate::matching::matches;
 pub use crate::name::{TopicName, is_topic_name};
 pub use crate::qos::{Qos, qos_order_law};
-pub use crate::store::{FilterStore, store_laws};
+pub use crate::store::{FilterStore, StoreRow, store_laws};
 pub use crate::trie_store::TrieStore;

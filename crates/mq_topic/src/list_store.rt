@@ -12,7 +12,7 @@ use crate::filter::TopicFilter;
 use crate::matching::matches;
 use crate::name::TopicName;
 use crate::qos::Qos;
-use crate::store::FilterStore;
+use crate::store::{FilterStore, StoreRow};
 use indexmap::IndexMap;
 use std::alloc::{AllocError, Global};
 use std::marker::Model;
@@ -151,6 +151,18 @@ fn matched(
     Ok(found)
 }
 
+fn listed(alloc: Global, rows: &Rows) -> Result<Vec<StoreRow>, AllocError>
+    requires { IsAscending rows.now.entries }
+    ensures value { IfOk result (λ list. list.items ≡ rows.now.entries) }
+    ensures ascending { IsAscending rows.now.entries }
+{
+    let mut list = Vec::with_capacity(alloc, rows.len())?;
+    'rows: for (key, qos) in rows.iter() {
+        list.push(((key.0, key.1.clone()?), *qos))?;
+    }
+    Ok(list)
+}
+
 impl ListStore {
     /// A store without rows. Allocates when the first row is set.
     pub fn new(alloc: Global) -> ListStore
@@ -192,5 +204,9 @@ impl FilterStore for ListStore {
 
     fn matching(&self, name: &TopicName) -> Result<Vec<(ClientKey, Qos)>, AllocError> {
         matched(self.alloc, &self.rows, name)
+    }
+
+    fn list(&self) -> Result<Vec<StoreRow>, AllocError> {
+        listed(self.alloc, &self.rows)
     }
 }

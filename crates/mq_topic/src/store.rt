@@ -10,6 +10,9 @@ use crate::name::TopicName;
 use crate::qos::Qos;
 use std::alloc::AllocError;
 
+/// A row of a store: a client and a filter, with the granted QoS (3.8.4).
+pub type StoreRow = ((ClientKey, TopicFilter), Qos);
+
 /// A store of subscriptions (3.8.4): a map from client and topic filter to the granted QoS.
 /// Contracts see the list of its rows, ordered by client and then by the bytes of the filter; so
 /// stores with equal maps are equal.
@@ -47,6 +50,11 @@ pub trait FilterStore {
     fn matching(&self, name: &TopicName) -> Result<Vec<(ClientKey, Qos)>, AllocError>
         ensures value { IfOk result (λ found. found.items ≡ matched name.now (rows self.now)) }
         ensures greatest { IfOk result (λ found. IsMatched name.now (rows self.now) found.items) };
+
+    /// Returns all rows in ascending order. Their filters share their bytes with the store.
+    fn list(&self) -> Result<Vec<StoreRow>, AllocError>
+        ensures value { IfOk result (λ list. list.items ≡ rows self.now) }
+        ensures ascending { IsAscending (rows self.now) };
 }
 
 /// The laws of stores: the QoS of each row after each call, that a map has exactly one ordered list

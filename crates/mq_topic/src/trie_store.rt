@@ -15,7 +15,7 @@ use crate::client_rows::{ClientRows, OwnRows};
 use crate::filter::TopicFilter;
 use crate::name::TopicName;
 use crate::qos::Qos;
-use crate::store::FilterStore;
+use crate::store::{FilterStore, StoreRow};
 use crate::trie_nodes::{NodeId, Trie};
 use crate::trie_walk::{open, prune, reach, search};
 use std::alloc::{AllocError, Global};
@@ -108,6 +108,10 @@ impl FilterStore for TrieStore {
     fn matching(&self, name: &TopicName) -> Result<Vec<(ClientKey, Qos)>, AllocError> {
         let found = search(self.alloc, &self.trie, name.as_str())?;
         listed(self.alloc, &found)
+    }
+
+    fn list(&self) -> Result<Vec<StoreRow>, AllocError> {
+        self.rows.list()
     }
 }
 
