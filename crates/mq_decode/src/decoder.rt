@@ -189,6 +189,13 @@ impl Decoder {
         len_of(self.limits, self.held.as_slice())
     }
 
+    /// Returns the held bytes of the incomplete packet; none after an error.
+    pub fn held_bytes(&self) -> &[u8]
+        ensures { result.now ≡ self.now.held }
+    {
+        self.held.as_slice()
+    }
+
     /// Returns the number of bytes copied into the decoder's own buffer since `new` or `reset`.
     /// Stops at the maximum of `u64`.
     pub fn copied(&self) -> u64

@@ -16,7 +16,7 @@ use Rattle.mq_end.specs.declared.reason.CloseReason.{CloseReason}
 -- the client has a session.
 -- clean: the CONNECT of the connection (at the server, the accepted one) has clean session 1, so
 -- the session ends with the connection (3.1.2.4).
--- keep_alive: the keep-alive of that CONNECT in seconds (3.1.2.10).
+-- keep_alive: the keep-alive of that CONNECT in seconds, 0 without a connection (3.1.2.10).
 -- window: the receive window, if any.
 pub record End : Type 0 where
   pub book : SenderBook
@@ -83,6 +83,7 @@ over e = record e {
   state = Disconnected;
   known = if e.clean then false else e.known;
   clean = false;
+  keep_alive = 0;
 }
 
 -- the end closes the connection (4.8), after these packets

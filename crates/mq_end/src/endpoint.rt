@@ -98,6 +98,7 @@ impl Endpoint {
         }
         self.state = State::Disconnected;
         self.clean = false;
+        self.keep_alive = 0;
         self.decoder.reset();
     }
 

@@ -2,6 +2,7 @@
 
 ghost use Rattle.std.specs.Prelude.{◌≡◌, ◌↔◌, [], IsTrue};
 ghost use Rattle.mq_end.specs.End.{resumed};
+ghost use Rattle.mq_end.specs.declared.state.State.TheVariants as states;
 ghost use Rattle.mq_end.specs.Resuming.{FitsWithin, NamesAnother};
 
 use crate::endpoint::Endpoint;
@@ -66,5 +67,18 @@ impl Endpoint {
             decoder: Decoder::new(alloc, limits),
             output: Output::new(alloc),
         }
+    }
+
+    /// Continues a connection whose CONNECT was accepted with these fields. Nothing is sent.
+    pub(crate) fn continue_connection(&mut self, clean: bool, keep_alive: u16, last_activity: u64)
+        ensures { self.new ≡ record self.old {
+          end = record self.old.end { state = states.Connected; clean = clean; keep_alive = keep_alive };
+          last_activity = last_activity;
+        } }
+    {
+        self.state = State::Connected;
+        self.clean = clean;
+        self.keep_alive = keep_alive;
+        self.last_activity = last_activity;
     }
 }

@@ -16,6 +16,7 @@ ghost use Rattle.mq_end.specs.KeepAlive.{server_ticks};
 ghost use Rattle.mq_end.specs.Deadline.{IsDeadline, is_overdue};
 ghost use Rattle.mq_end.specs.Laws.{KeepsWindow};
 ghost use Rattle.mq_end.specs.Resuming.{FitsWithin};
+ghost use Rattle.mq_end.specs.declared.state.State.TheVariants as states;
 
 use crate::config::ServerConfig;
 use crate::endpoint::Endpoint;
@@ -97,6 +98,22 @@ impl ServerEnd {
         }
         let link = Endpoint::with_session(alloc, config.limits, config.window, session, true);
         Some(ServerEnd { link })
+    }
+
+    /// Continues a connection after a restart of the process. Its CONNECT was accepted with this
+    /// clean session flag and keep-alive (3.1.2.4, 3.1.2.10), and its last packet arrived at the
+    /// time `last_activity`. Nothing is sent. Call this after [`with_session`], if at all.
+    ///
+    /// [`with_session`]: ServerEnd::with_session
+    pub fn continue_connection(&mut self, clean: bool, keep_alive: u16, last_activity: u64)
+        requires { is_live self.old.end.state ≡ false }
+        ensures { self.new ≡ record self.old {
+          end = record self.old.end { state = states.Connected; clean = clean; keep_alive = keep_alive };
+          last_activity = last_activity;
+        } }
+    {
+        self.link
+            .continue_connection(clean, keep_alive, last_activity);
     }
 
     /// Opens a connection at time `now`; the end then waits for its CONNECT (3.1). Drops an open
