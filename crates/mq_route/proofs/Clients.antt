@@ -1,16 +1,16 @@
 -- A client is connected on a connection exactly if it is by the acts of the run.
-use Rattle.std.proofs.Common.{◌≡◌, ℕ, Bool, true, List, [], Option, Some, None, eqb-true, refl, sym, ap, subst, ◌∙◌}
+use Rattle.std.proofs.Common.{◌≡◌, ◌↔◌, ℕ, Bool, true, List, Option, Some, None, eqb-true, refl, sym, ap, subst, ◌∙◌}
 use Rattle.mq_topic.specs.StoreLaws.{StoreLaws}
 use Rattle.mq_route.specs.declared.conn.Conn.{Conn}
 use Rattle.mq_route.specs.declared.connection_state.ConnectionState.{ConnectionState}
 use Rattle.mq_route.specs.declared.connection_state.ConnectionState.TheVariants.{AwaitingConnect, ConnectedAs, Closed}
 use Rattle.mq_route.specs.Hub.{HubConnection, new_hub, is_for, stage_of, up_on}
-use Rattle.mq_route.specs.Routed.{Seen, seen}
+use Rattle.mq_route.specs.Routed.{seen}
 use Rattle.mq_route.specs.Runs.{acts_of}
 use Rattle.mq_route.proofs.Events.{sound_new}
 use Rattle.mq_route.proofs.Lines.{conn_in, up_is, upper}
 use Rattle.mq_route.proofs.Output.{sound_run}
-use Rattle.mq_route.proofs.Routing.{tells_run}
+use Rattle.mq_route.proofs.Routing.{up_since}
 use Rattle.mq_route.proofs.Uppers.{Apart, upper_at, upper_stage}
 use Rattle.mq_route.specs.Clients.{ClientLaws}
 
@@ -29,13 +29,14 @@ for_up c k xs a (Some u) e up =
     let same : u.0 ≡ k = cc in
     subst (λ (n : Conn). is_for c (stage_of n xs) ≡ true) same (upper_stage c u xs a e)
 
+-- connected exactly if the acts say so
+pub connected : (c : ℕ) (k : Conn) (xs : List HubConnection) → Apart xs → (up : Option Conn) → up ≡ up_on c xs → (is_for c (stage_of k xs) ≡ true) ↔ (up ≡ Some k)
+connected c k xs a up is = (
+  λ here. is ∙ up_here c k xs a (stage_of k xs) refl here,
+  λ there. for_up c k xs a (upper c xs) refl (sym (up_is c xs) ∙ (sym is ∙ there)),
+)
+
 pub laws : StoreLaws → ClientLaws
 laws store = record {
-  connected_is_seen = λ config es h f c k.
-      let s = sound_run es (new_hub config) h f (sound_new config) in
-      let a = tells_run store es [] (new_hub config) h f (sound_new config) (λ c. refl, λ c. refl) in
-      let up : (seen c (acts_of es)).up ≡ up_on c h.connections = ap (λ (s : Seen). s.up) (a.0 c) in (
-        λ here. up ∙ up_here c k h.connections s.apart (stage_of k h.connections) refl here,
-        λ there. for_up c k h.connections s.apart (upper c h.connections) refl (sym (up_is c h.connections) ∙ (sym up ∙ there)),
-      );
+  connected_is_seen = λ config es h f c k. connected c k h.connections (sound_run es (new_hub config) h f (sound_new config)).apart (seen c (acts_of es)).up (up_since store (new_hub config) es h f (sound_new config) c);
 }

@@ -53,6 +53,7 @@ use Rattle.mq_route.proofs.Steps.{heard_mild, stage_heard, takes_both, breaks_bo
 use Rattle.mq_route.proofs.Events.{sound_new}
 use Rattle.mq_route.proofs.Output.{sound_run}
 use Rattle.mq_route.proofs.Missing.{short_parts}
+use Rattle.mq_route.specs.Begun.{view_of}
 use Rattle.mq_route.proofs.Routing as routing
 use Rattle.mq_route.proofs.Reading as reading
 use Rattle.mq_route.specs.declared.config.HubConfig.{HubConfig}
@@ -184,7 +185,7 @@ subscribe_routed c key (r ∷ rs) s =
     ∙ ap₂ (λ (a b : List Message). a ++ b) (routing.for_client-key c key first) (subscribe_routed c key rs (record s { rows = with_row key r.filter r.qos s.rows }))
 
 module _ (store : StoreLaws) (log : List Act) where
-  told_routed : (h : HubState) (c key : ℕ) (told : Happening) (s : Seen) → s ≡ routing.view store c h → for_client c (due_by key h told) ≡ routed_from c s (asked_by key told)
+  told_routed : (h : HubState) (c key : ℕ) (told : Happening) (s : Seen) → s ≡ view_of c h → for_client c (due_by key h told) ≡ routed_from c s (asked_by key told)
   unfolding routes
   told_routed h c key (happens.Handed m) s e = routing.due_is store h c m ∙ ap (λ (s : Seen). copies_for c s m) (sym e) ∙ sym (append-nil (copies_for c s m))
   told_routed h c key (happens.Subscribe i requests) s e =
@@ -195,7 +196,7 @@ module _ (store : StoreLaws) (log : List Act) where
   told_routed h c key (happens.UnsubAck i) s e = refl
   told_routed h c key happens.Pong s e = refl
 
-  due_routed : (h : HubState) (c key : ℕ) (happenings : List Happening) → IsLone happenings → (s : Seen) → s ≡ routing.view store c h → for_client c (due key h happenings) ≡ routed_from c s (asked key happenings)
+  due_routed : (h : HubState) (c key : ℕ) (happenings : List Happening) → IsLone happenings → (s : Seen) → s ≡ view_of c h → for_client c (due key h happenings) ≡ routed_from c s (asked key happenings)
   due_routed h c key happenings (inl none) s e =
       ap (λ (l : List Happening). for_client c (due key h l)) none ∙ ap (λ (l : List Happening). routed_from c s (asked key l)) (sym none)
   due_routed h c key happenings (inr one) s e =
@@ -278,7 +279,7 @@ key_touched now Closed = refl
 module _ (store : StoreLaws) (log : List Act) (config : HubConfig) where
   -- the acts describe the work, and its configuration is this
   abbrev Told : Work → Type 0
-  Told w = routing.Tells store log nothing w × (w.hub.config ≡ config)
+  Told w = routing.Tells store (routing.unseen store) log nothing w × (w.hub.config ≡ config)
 
   too_much : (k : Conn) (p : Packet) (g : Growth) (w : Work) → Told w → IsFull k p (touched_on k w) → full_closes w.did ≡ [] → full_closes (takes k p g w).did ≡ k ∷ [] → IsTooMuch log config k p g w
   too_much k p g w told x none closes =
@@ -286,7 +287,7 @@ module _ (store : StoreLaws) (log : List Act) (config : HubConfig) where
       let happenings = (server_gets p (end_of x.key u.hub.sessions)).happenings in
       let kind = kind_up x.key u.hub p (end_of x.key u.hub.sessions) x.state x.short in
       let lack = not_room (due x.key u.hub happenings) u.hub x.short in
-      let after = (routing.outer store log).mild (λ x. record x { stage = touched w.hub.clock x.stage }) k nothing w (heard_mild w.hub.clock) told.0 in
+      let after = (routing.outer store (routing.unseen store) log).mild (λ x. record x { stage = touched w.hub.clock x.stage }) k nothing w (heard_mild w.hub.clock) told.0 in
       record {
         key = x.key;
         connected = sym (key_touched w.hub.clock (stage_of k w.hub.connections)) ∙ ap key_on (sym (stage_heard k w)) ∙ x.up;
@@ -311,7 +312,7 @@ module _ (store : StoreLaws) (log : List Act) (config : HubConfig) where
       let X : Type 0 = IsFull k p (touched_on k v) in
       let t = takes_both (Few if_full [] X) (May if_full X) Anywhere (inner if_full [] X) (outer if_full [] X) (ways X) anywhere k p g v tt tt
       ((λ key up state short. inr (record { key = key; up = up; state = state; short = short })), (λ key up broad. inl (λ k. refl))) (s, inl none) in
-      let a = takes_both (routing.Tells store log) Freely Anywhere (routing.inner store log) (routing.outer store log) freely anywhere k p g v tt tt ((λ key up state short. tt), (λ key up broad. tt)) (s, told.0) in
+      let a = takes_both (routing.Tells store (routing.unseen store) log) Freely Anywhere (routing.inner store (routing.unseen store) log) (routing.outer store (routing.unseen store) log) freely anywhere k p g v tt tt ((λ key up state short. tt), (λ key up broad. tt)) (s, told.0) in
       let same = takes_both (reading.Same config) Freely Anywhere (reading.same_inner config) (reading.same_outer config) freely anywhere k p g v tt tt ((λ key up state short. tt), (λ key up broad. tt)) (s, told.1) in
       go t.1 (λ none. few_comes limits k rest (takes k p g v) v2 more t.0 (a.1, same.1) none)
     where
@@ -343,10 +344,10 @@ module _ (store : StoreLaws) (log : List Act) (config : HubConfig) where
   few_comes limits k b w w2 (LetsGo c v closed) s told none = inl none
 
 module _ (store : StoreLaws) (log : List Act) where
-  few_event : (h : HubState) (e : HubEvent) (r : HubReply) (w : Work) (d : Does h e r w) → Sound h → routing.Agrees store log h [] → (full_closes w.did ≡ []) ⊎ IsFullEvent log h e r w d
+  few_event : (h : HubState) (e : HubEvent) (r : HubReply) (w : Work) (d : Does h e r w) → Sound h → routing.Agrees store (routing.unseen store) log h [] → (full_closes w.did ≡ []) ⊎ IsFullEvent log h e r w d
   few_event h (Opened k) r w d s a = inl (ap (λ (w : Work). full_closes w.did) d.0)
   few_event h (Bytes k piece) r w d s a =
-      let start = holding_both (routing.Tells store log) Freely Anywhere (routing.inner store log) (routing.outer store log) freely anywhere k [] (begin h) (λ t. routing.holds_tells store log k [] (begin h) t) (s, routing.starts store log h a) in
+      let start = holding_both (routing.Tells store (routing.unseen store) log) Freely Anywhere (routing.inner store (routing.unseen store) log) (routing.outer store (routing.unseen store) log) freely anywhere k [] (begin h) (λ t. routing.holds_tells store (routing.unseen store) log k [] (begin h) t) (s, routing.starts store (routing.unseen store) log h a) in
       few_comes store log h.config h.config.limits k (held_on k h.connections ++ piece) (holding k [] (begin h)) w d.0 start.0 (start.1, refl) refl
   few_event h (Ended k) r w d s a =
       inl (ap (λ (w : Work). full_closes w.did) d.1
@@ -376,4 +377,4 @@ laws store = record {
         → (full_closes w.did ≡ []) ⊎ IsFullEvent (acts_of before) h e r w d
     full config before h f e r w right d =
         few_event store (acts_of before) h e r w d (sound_run before (new_hub config) h f (sound_new config))
-        (routing.tells_run store before [] (new_hub config) h f (sound_new config) (λ c. refl, λ c. refl))
+        (routing.tells_run store (routing.unseen store) before [] (new_hub config) h f (sound_new config) (λ c. refl, λ c. refl))

@@ -30,3 +30,8 @@ mod PendingOutput
 mod Bounds
 mod Remaining
 mod Expiring
+pub mod Codes
+mod SessionCodes
+pub mod ConnectionCodes
+mod Snapshots
+mod Beginnings

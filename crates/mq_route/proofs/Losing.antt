@@ -1,5 +1,5 @@
 -- Each dropped will has a reason.
-use Rattle.std.proofs.Common.{◌≡◌, ◌⊎◌, inl, inr, ℕ, Bool, true, false, ◌&&◌, ◌||◌, cond, List, [], ◌∷◌, ◌++◌, map, ◌-◌, max, Option, Some, is_some, refl, sym, ap, ap₂, subst, ◌∙◌, append-nil, eqb, eqb-true, true≢false}
+use Rattle.std.proofs.Common.{◌≡◌, ◌⊎◌, inl, inr, ℕ, Bool, true, false, ◌&&◌, ◌||◌, cond, List, [], ◌∷◌, ◌++◌, map, max, Option, Some, is_some, refl, sym, ap, ap₂, subst, ◌∙◌, append-nil, eqb, eqb-true, true≢false}
 use Rattle.std.proofs.lemmas.List.Concat.{flat_map-append}
 use Rattle.std.specs.List.{flat_map, list_all}
 use Rattle.mq_topic.specs.Rows.{matched, without_client}

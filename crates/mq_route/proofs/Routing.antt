@@ -29,12 +29,13 @@ use Rattle.mq_route.specs.declared.reply.HubReply.{HubReply}
 use Rattle.mq_route.specs.declared.connection_state.ConnectionState.TheVariants.{ConnectedAs}
 use Rattle.mq_route.specs.declared.connection_state.ConnectionTerms.{ConnectionTerms}
 use Rattle.mq_route.specs.Copies.{is_hidden_name, copy_by, kept, retained_for}
-use Rattle.mq_route.specs.Routed.{Seen, nothing_seen, unless_on, seen_after, copies_for, routes, routed_from, routed, seen, marked_by, marked, settled, missed}
+use Rattle.mq_route.specs.Routed.{Seen, nothing_seen, unless_on, seen_after, copies_for, routes, routed_from, routed, marked_by, marked, settled, missed}
 use Rattle.mq_route.specs.Hub.{HubState, HubConnection, new_hub, knows, stage_of, changed, with_connection, without_connection, is_open, held_on, up_on, end_of, with_end, for_key, copies_of}
 use Rattle.mq_route.specs.Work.{Work, begin, said, with_sessions, staged, shut, put_on, put_where, does, drops_copies, remove, remove_if}
 use Rattle.mq_route.specs.Arrives.{new_session}
 use Rattle.mq_route.specs.Step.{Does, event_refusal, opened, ended, ended_open, collected, told, holding}
 use Rattle.mq_route.specs.Runs.{Episode, Follows, acts_of}
+use Rattle.mq_route.specs.Begun.{view_of}
 use Rattle.mq_route.specs.Laws.{RoutingLaws, for_client}
 use Rattle.mq_route.proofs.Lines.{grown, upper, conn_in, up_is, up_map, names_changed, ups_changed}
 use Rattle.mq_route.proofs.Uppers.{IsIdle, unless_is, upper_risen, upper_opened, upper_without}
@@ -140,11 +141,8 @@ module _ (connections : List HubConnection) (m : Message) where
           ∙ ap (copy_by (is_some (up_on c connections)) m) (sym (cond-false (eq_by_cmp nat_cmp c e.0) (Some e.1) (qos_of c es) (untied c e.0 k)))
 
 module _ (store : StoreLaws) where
-  abbrev pub view : ℕ → HubState → Seen
-  view c h = record { rows = h.rows; up = up_on c h.connections; retained = h.retained }
-
   -- the copies for a client are those that would be routed to it
-  pub due_is : (h : HubState) (c : ℕ) (m : Message) → for_client c (copies_of m h) ≡ copies_for c (view c h) m
+  pub due_is : (h : HubState) (c : ℕ) (m : Message) → for_client c (copies_of m h) ≡ copies_for c (view_of c h) m
   unfolding copies_of copies_for
   due_is h c m = go (is_hidden_name m.topic)
     where
@@ -155,12 +153,14 @@ module _ (store : StoreLaws) where
       go true = refl
       go false = all
 
-  -- ---- one more act
+-- ---- one more act
 
+-- acts that begin with a view for each client
+module _ (store : StoreLaws) (first : ℕ → Seen) where
   -- the acts describe the broker, and they route the messages that were placed or missed, and the
   -- due ones
   abbrev pub Agrees : List Act → HubState → List (ℕ × Message) → Type 0
-  Agrees log h due = ((c : ℕ) → seen c log ≡ view c h) × ((c : ℕ) → routed c log ≡ settled c log ++ for_client c due)
+  Agrees log h due = ((c : ℕ) → fold (seen_after c) (first c) log ≡ view_of c h) × ((c : ℕ) → routed_from c (first c) log ≡ settled c log ++ for_client c due)
 
   seen_more : (c : ℕ) (s : Seen) (log : List Act) (act : Act) → fold (seen_after c) s (log ++ act ∷ []) ≡ seen_after c (fold (seen_after c) s log) act
   seen_more c s [] act = refl
@@ -180,14 +180,14 @@ module _ (store : StoreLaws) where
       ap (map (λ (x : Bool × Message). x.1)) (flat_map-append (marked_by c) log (act ∷ []) ∙ ap (λ (l : List (Bool × Message)). marked c log ++ l) (append-nil (marked_by c act)))
       ∙ map-append (λ (x : Bool × Message). x.1) (marked c log) (marked_by c act)
 
-  say : (log : List Act) (act : Act) (h h2 : HubState) (due due2 : List (ℕ × Message)) → Agrees log h due → ((c : ℕ) → seen_after c (view c h) act ≡ view c h2)
-      → ((c : ℕ) → for_client c due ++ routes c (view c h) act ≡ settled_by c act ++ for_client c due2) → Agrees (log ++ act ∷ []) h2 due2
+  say : (log : List Act) (act : Act) (h h2 : HubState) (due due2 : List (ℕ × Message)) → Agrees log h due → ((c : ℕ) → seen_after c (view_of c h) act ≡ view_of c h2)
+      → ((c : ℕ) → for_client c due ++ routes c (view_of c h) act ≡ settled_by c act ++ for_client c due2) → Agrees (log ++ act ∷ []) h2 due2
   say log act h h2 due due2 a sees pays = (
-    λ c. seen_more c nothing_seen log act ∙ ap (λ (s : Seen). seen_after c s act) (a.0 c) ∙ sees c,
+    λ c. seen_more c (first c) log act ∙ ap (λ (s : Seen). seen_after c s act) (a.0 c) ∙ sees c,
     λ c.
-        routed_more c nothing_seen log act
+        routed_more c (first c) log act
         ∙ ap₂ (λ (r : List Message) (s : Seen). r ++ routes c s act) (a.1 c) (a.0 c)
-        ∙ append_assoc (settled c log) (for_client c due) (routes c (view c h) act)
+        ∙ append_assoc (settled c log) (for_client c due) (routes c (view_of c h) act)
         ∙ ap (λ (l : List Message). settled c log ++ l) (pays c)
         ∙ sym (append_assoc (settled c log) (settled_by c act) (for_client c due2))
         ∙ ap (λ (l : List Message). l ++ for_client c due2) (sym (settled_more c log act)),
@@ -198,17 +198,17 @@ module _ (store : StoreLaws) where
     Tells o w = Agrees (log ++ w.did) w.hub o.copies
 
     -- one more act in a step
-    says : (act : Act) (w : Work) (h2 : HubState) (due due2 : List (ℕ × Message)) → Agrees (log ++ w.did) w.hub due → ((c : ℕ) → seen_after c (view c w.hub) act ≡ view c h2)
-        → ((c : ℕ) → for_client c due ++ routes c (view c w.hub) act ≡ settled_by c act ++ for_client c due2) → Agrees (log ++ (w.did ++ act ∷ [])) h2 due2
+    says : (act : Act) (w : Work) (h2 : HubState) (due due2 : List (ℕ × Message)) → Agrees (log ++ w.did) w.hub due → ((c : ℕ) → seen_after c (view_of c w.hub) act ≡ view_of c h2)
+        → ((c : ℕ) → for_client c due ++ routes c (view_of c w.hub) act ≡ settled_by c act ++ for_client c due2) → Agrees (log ++ (w.did ++ act ∷ [])) h2 due2
     says act w h2 due due2 a sees pays =
         subst (λ (l : List Act). Agrees l h2 due2) (append_assoc log w.did (act ∷ [])) (say (log ++ w.did) act w.hub h2 due due2 a sees pays)
 
     -- another broker with the same view
-    looks : (l : List Act) (h h2 : HubState) (due : List (ℕ × Message)) → ((c : ℕ) → view c h ≡ view c h2) → Agrees l h due → Agrees l h2 due
+    looks : (l : List Act) (h h2 : HubState) (due : List (ℕ × Message)) → ((c : ℕ) → view_of c h ≡ view_of c h2) → Agrees l h due → Agrees l h2 due
     looks l h h2 due same a = (λ c. a.0 c ∙ same c, a.1)
 
     -- connections that keep each client's connection keep the view
-    lines_as : (h : HubState) (xs : List HubConnection) → ((c : ℕ) → up_on c xs ≡ up_on c h.connections) → (c : ℕ) → view c h ≡ view c (record h { connections = xs })
+    lines_as : (h : HubState) (xs : List HubConnection) → ((c : ℕ) → up_on c xs ≡ up_on c h.connections) → (c : ℕ) → view_of c h ≡ view_of c (record h { connections = xs })
     lines_as h xs same c = ap (λ (o : Option Conn). record { rows = h.rows; up = o; retained = h.retained }) (sym (same c))
 
     put_tells : (k : Conn) (ps : List Packet) (o : Debt) (w : Work) → Tells o w → Tells o (put_on k ps w)
@@ -220,11 +220,11 @@ module _ (store : StoreLaws) where
 
     took_tells : (key : ℕ) (m : Message) (w : Work) → Agrees (log ++ w.did) w.hub [] → Agrees (log ++ (w.did ++ acts.Took key m ∷ [])) (record w.hub { retained = kept m w.hub.retained }) (copies_of m w.hub)
     unfolding seen_after routes marked_by
-    took_tells key m w a = says (acts.Took key m) w (record w.hub { retained = kept m w.hub.retained }) [] (copies_of m w.hub) a (λ c. refl) (λ c. sym (due_is w.hub c m))
+    took_tells key m w a = says (acts.Took key m) w (record w.hub { retained = kept m w.hub.retained }) [] (copies_of m w.hub) a (λ c. refl) (λ c. sym (due_is store w.hub c m))
 
     willed_tells : (key : ℕ) (m : Message) (w : Work) → Agrees (log ++ w.did) w.hub [] → Agrees (log ++ (w.did ++ acts.Will key m ∷ [])) (record w.hub { retained = kept m w.hub.retained }) (copies_of m w.hub)
     unfolding seen_after routes marked_by
-    willed_tells key m w a = says (acts.Will key m) w (record w.hub { retained = kept m w.hub.retained }) [] (copies_of m w.hub) a (λ c. refl) (λ c. sym (due_is w.hub c m))
+    willed_tells key m w a = says (acts.Will key m) w (record w.hub { retained = kept m w.hub.retained }) [] (copies_of m w.hub) a (λ c. refl) (λ c. sym (due_is store w.hub c m))
 
     paid : (mark : Bool) (c key : ℕ) (m : Message) (due : List (ℕ × Message)) → for_client c ((key, m) ∷ due) ≡ map (λ (x : Bool × Message). x.1) (cond (eqb key c) ((mark, m) ∷ []) []) ++ for_client c due
     paid mark c key m due = go (eqb key c)
@@ -295,7 +295,7 @@ module _ (store : StoreLaws) where
     begins_tells client w a = a
 
     -- sent packets change neither the acts nor the view
-    put_where_same : (to : Option Conn) (ps : List Packet) (w : Work) → ((put_where to ps w).did ≡ w.did) × ((c : ℕ) → view c (put_where to ps w).hub ≡ view c w.hub)
+    put_where_same : (to : Option Conn) (ps : List Packet) (w : Work) → ((put_where to ps w).did ≡ w.did) × ((c : ℕ) → view_of c (put_where to ps w).hub ≡ view_of c w.hub)
     unfolding put_on
     put_where_same None ps w = (refl, λ c. refl)
     put_where_same (Some k) ps w =
@@ -318,11 +318,11 @@ module _ (store : StoreLaws) where
         risen_lines : List HubConnection
         risen_lines = (staged k (ConnectedAs key terms last_activity) w).hub.connections
 
-        seen_as : (c : ℕ) (b : Bool) → cond b (record (view c w.hub) { up = Some k }) (view c w.hub) ≡ record { rows = w.hub.rows; up = conn_in (cond b (Some (k, terms.clean_session)) (upper c w.hub.connections)); retained = w.hub.retained }
+        seen_as : (c : ℕ) (b : Bool) → cond b (record (view_of c w.hub) { up = Some k }) (view_of c w.hub) ≡ record { rows = w.hub.rows; up = conn_in (cond b (Some (k, terms.clean_session)) (upper c w.hub.connections)); retained = w.hub.retained }
         seen_as c true = refl
         seen_as c false = ap (λ (o : Option Conn). record { rows = w.hub.rows; up = o; retained = w.hub.retained }) (up_is c w.hub.connections)
 
-        risen_seen : (c : ℕ) → cond (eqb key c) (record (view c w.hub) { up = Some k }) (view c w.hub) ≡ view c (staged k (ConnectedAs key terms last_activity) w).hub
+        risen_seen : (c : ℕ) → cond (eqb key c) (record (view_of c w.hub) { up = Some k }) (view_of c w.hub) ≡ view_of c (staged k (ConnectedAs key terms last_activity) w).hub
         risen_seen c =
             seen_as c (eqb key c)
             ∙ ap (λ (o : Option (Conn × Bool)). record { rows = w.hub.rows; up = conn_in o; retained = w.hub.retained }) (sym (upper_risen k key terms last_activity w.hub.connections s.apart known free none c))
@@ -390,16 +390,31 @@ module _ (store : StoreLaws) where
       subst (λ (l : List Act). Agrees l h2 []) (append_assoc log e.reply.acts (acts_of es))
       (tells_run es (log ++ e.reply.acts) e.work.hub h2 f.2 (sound_event h e.event e.reply e.work f.0 f.1 s) (tells_event log h e.event e.reply e.work f.0 f.1 s a))
 
+-- the acts of a run that begins with a new broker, or with another one
+module _ (store : StoreLaws) where
+  abbrev pub unseen : ℕ → Seen
+  unseen c = nothing_seen
+
+  told_new : (config : HubConfig) (es : List Episode) (h : HubState) → Follows (new_hub config) es h → Agrees store unseen (acts_of es) h []
+  told_new config es h f = tells_run store unseen es [] (new_hub config) h f (sound_new config) (λ c. refl, λ c. refl)
+
+  pub settles_since : (begun : HubState) (es : List Episode) (h : HubState) → Follows begun es h → Sound begun → (c : ℕ) → settled c (acts_of es) ≡ routed_from c (view_of c begun) (acts_of es)
+  settles_since begun es h f s c =
+      let a = tells_run store (λ c. view_of c begun) es [] begun h f s (λ c. refl, λ c. refl) in sym (a.1 c ∙ append-nil (settled c (acts_of es)))
+
+  pub up_since : (begun : HubState) (es : List Episode) (h : HubState) → Follows begun es h → Sound begun → (c : ℕ) → (fold (seen_after c) (view_of c begun) (acts_of es)).up ≡ up_on c h.connections
+  up_since begun es h f s c = ap (λ (s : Seen). s.up) ((tells_run store (λ c. view_of c begun) es [] begun h f s (λ c. refl, λ c. refl)).0 c)
+
   pub laws : RoutingLaws
   laws = record {
     settled_is_routed = settles;
     nothing_missed = misses;
     placed_is_routed = λ config closes unlimited es h f c. sym (settled_is c (acts_of es) (misses config closes unlimited es h f c)) ∙ settles config es h f c;
-    due_is_routed = λ config es h f c m. let a = tells_run es [] (new_hub config) h f (sound_new config) (λ c. refl, λ c. refl) in due_is h c m ∙ ap (λ (s : Seen). copies_for c s m) (sym (a.0 c));
+    due_is_routed = λ config es h f c m. due_is store h c m ∙ ap (λ (s : Seen). copies_for c s m) (sym ((told_new config es h f).0 c));
   }
     where
       settles : (config : HubConfig) (es : List Episode) (h : HubState) → Follows (new_hub config) es h → (c : ℕ) → settled c (acts_of es) ≡ routed c (acts_of es)
-      settles config es h f c = let a = tells_run es [] (new_hub config) h f (sound_new config) (λ c. refl, λ c. refl) in sym (a.1 c ∙ append-nil (settled c (acts_of es)))
+      settles config es h f c = sym ((told_new config es h f).1 c ∙ append-nil (settled c (acts_of es)))
 
       misses : (config : HubConfig) → config.when_full ≡ ClosePublisher → config.most_waiting ≡ None → (es : List Episode) (h : HubState) → Follows (new_hub config) es h → (c : ℕ) → missed c (acts_of es) ≡ []
       misses config closes unlimited es h f c = none_run config (ap drops_copies closes) unlimited es (new_hub config) h f (sound_new config) refl c

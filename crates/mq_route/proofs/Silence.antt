@@ -11,7 +11,7 @@ use Rattle.mq_route.specs.declared.reply.HubReply.{HubReply}
 use Rattle.mq_route.specs.declared.connection_state.ConnectionState.{ConnectionState}
 use Rattle.mq_route.specs.declared.connection_state.ConnectionState.TheVariants.{AwaitingConnect, ConnectedAs, Closed}
 use Rattle.mq_route.specs.Hub.{HubState, HubConnection, new_hub, stage_of, is_open, held_on}
-use Rattle.mq_route.specs.Work.{Work, begin, does, close}
+use Rattle.mq_route.specs.Work.{Work, begin, close}
 use Rattle.mq_route.specs.Step.{holding, Ticks, Done, InTime, Late, has_passed, late_reason, Does, expire, told}
 use Rattle.mq_route.specs.Silent.{if_silent, silent_closes, awaits_connect, silent, due_closes, SilentLaws}
 use Rattle.mq_route.proofs.Changes.{Anywhere, anywhere, Ways, Sound}

@@ -116,6 +116,17 @@ abbrev pub up_on : ℕ → List HubConnection → Option Conn
 up_on key [] = None
 up_on key (x ∷ xs) = if is_for key x.stage then Some x.conn else up_on key xs
 
+-- the state of the connection on which a client is connected; `Closed` if there is none
+abbrev pub stage_for : ℕ → List HubConnection → ConnectionState
+stage_for key [] = Closed
+stage_for key (x ∷ xs) = if is_for key x.stage then x.stage else stage_for key xs
+
+-- the keep-alive of the connected client in seconds (3.1.2.10)
+abbrev pub keep_alive_on : ConnectionState → ℕ
+keep_alive_on AwaitingConnect = 0
+keep_alive_on (ConnectedAs key terms last_activity) = terms.keep_alive
+keep_alive_on Closed = 0
+
 -- ---- sessions
 
 -- the end of a session

@@ -23,3 +23,5 @@ pub mod Broad
 pub mod Clients
 pub mod Bounds
 pub mod Expired
+pub mod Snapshot
+pub mod Begun

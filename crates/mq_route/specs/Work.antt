@@ -1,5 +1,5 @@
 -- The state of a step in progress, and its elementary changes.
-use Rattle.std.specs.Prelude.{ℕ, ◌+◌, ◌-◌, Bool, true, false, not, ◌&&◌, ◌||◌, ◌==◌, nat_le, List, [], ◌∷◌, ◌++◌, length, map, sum_by, Option, Some, None, if◌then◌else◌}
+use Rattle.std.specs.Prelude.{ℕ, ◌-◌, Bool, true, false, not, ◌&&◌, ◌||◌, ◌==◌, nat_le, List, [], ◌∷◌, ◌++◌, length, map, sum_by, Option, Some, None, if◌then◌else◌}
 use Rattle.std.specs.List.{list_all, count_by}
 use Rattle.mq_topic.specs.Rows.{with_row, without_row, without_client}
 use Rattle.mq_packet.specs.declared.connect.Will.{Will}

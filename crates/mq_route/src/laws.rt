@@ -1,6 +1,7 @@
 //! Laws of every run of a broker.
 
 ghost use Rattle.mq_route.specs.Accepted.{AcceptLaws};
+ghost use Rattle.mq_route.specs.Begun.{BegunLaws};
 ghost use Rattle.mq_route.specs.Broad.{BroadLaws};
 ghost use Rattle.mq_route.specs.Clients.{ClientLaws};
 ghost use Rattle.mq_route.specs.Dropped.{WillLaws};
@@ -12,6 +13,7 @@ ghost use Rattle.mq_route.specs.Laws.{OutputLaws, RoutingLaws, TakingLaws};
 ghost use Rattle.mq_route.specs.Names.{NameLaws};
 ghost use Rattle.mq_route.specs.Reading.{ReadLaws};
 ghost use Rattle.mq_route.specs.Silent.{SilentLaws};
+ghost use Rattle.mq_route.specs.Snapshot.{SnapshotLaws};
 
 use mq_end::sound_laws;
 use mq_flow::{identifier_laws, next_laws};
@@ -23,6 +25,14 @@ use mq_topic::store_laws;
 pub fn output_laws()
     ensures { OutputLaws }
 {}
+
+/// The laws of runs that begin with a broker without connections, as after a restart: they need not
+/// begin with a new broker (3.1.2.4).
+pub fn begun_laws()
+    ensures { BegunLaws }
+{
+    store_laws();
+}
 
 /// The messages placed for a client are those that are routed to it by its subscriptions (3.3.5,
 /// 3.8.4), whether it is connected or not (4.3), and the retained messages (3.3.1.3).
@@ -109,6 +119,12 @@ pub fn client_laws()
 {
     store_laws();
 }
+
+/// A snapshot determines a broker apart from its configuration and its pending output (3.1.2.4,
+/// 4.1).
+pub fn snapshot_laws()
+    ensures { SnapshotLaws }
+{}
 
 /// Worked runs, with their acts and pending output.
 pub fn examples()

@@ -25,8 +25,9 @@ pub use crate::conn::Conn;
 pub use crate::connection_state::{ConnectionState, ConnectionTerms};
 pub use crate::event::HubEvent;
 pub use crate::laws::{
-    accept_laws, broad_laws, client_laws, examples, expiry_laws, full_laws, history_laws,
-    name_laws, output_laws, read_laws, routing_laws, silent_laws, taking_laws, will_laws,
+    accept_laws, begun_laws, broad_laws, client_laws, examples, expiry_laws, full_laws,
+    history_laws, name_laws, output_laws, read_laws, routing_laws, silent_laws, snapshot_laws,
+    taking_laws, will_laws,
 };
 pub use crate::refusal::HubRefusal;
 pub use crate::reply::HubReply;

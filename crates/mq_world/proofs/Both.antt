@@ -111,11 +111,11 @@ apart capacity b s i = let d = s.distinct i in let e = times_uses i b in let f =
 pub close_keeps : (capacity : ℕ) (h y : Half) (st : State) (q rest ps : List Packet) (reason : Option CloseReason) → answers ps ≡ no_answers
     → flight ps ≡ no_flight → Each IsPlain ps → Both capacity (upon h st q) y
     → Both capacity
-    (record h { end = record h.end { book = record h.end.book { claimed = [] }; state = Disconnected; clean = false }; coming = [] })
+    (record h { end = record h.end { book = record h.end.book { claimed = [] }; state = Disconnected; clean = false; keep_alive = 0 }; coming = [] })
     (put ps y)
 close_keeps capacity h y st q rest ps reason none_answering none_flying plain b =
     finish capacity (upon h st q) y
-    (record h { end = record h.end { book = record h.end.book { claimed = [] }; state = Disconnected; clean = false }; coming = [] }) ps
+    (record h { end = record h.end { book = record h.end.book { claimed = [] }; state = Disconnected; clean = false; keep_alive = 0 }; coming = [] }) ps
     (answers y.coming) (flight y.coming)
     (same_answers y.end.state y.coming ps none_answering) (same_flight y.end.state y.coming ps none_flying)
     (second.sender_drops b.to_y.0, first.sender_drops b.to_y.1, b.to_y.2)
