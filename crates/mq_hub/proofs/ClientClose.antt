@@ -18,12 +18,12 @@ use Rattle.mq_route.specs.declared.conn.Conn.{Conn}
 use Rattle.mq_route.specs.declared.connection_state.ConnectionState.{ConnectionState}
 use Rattle.mq_route.specs.declared.connection_state.ConnectionState.TheVariants.{AwaitingConnect, ConnectedAs, Closed}
 use Rattle.mq_route.specs.declared.connection_state.ConnectionTerms.{ConnectionTerms}
-use Rattle.mq_route.specs.Hub.{HubState, HubSession, HubConnection, changed, end_of, is_clean, is_for, is_connection, key_on, knows, stage_of, up_on, with_end, with_connection, without_session}
+use Rattle.mq_route.specs.Hub.{HubState, HubSession, HubConnection, changed, end_of, is_clean, is_for, is_connection, key_on, knows, stage_of, up_on, with_end, with_connection, without_session, stage_for, keep_alive_on}
 use Rattle.mq_route.specs.Routed.{same_conn}
 use Rattle.mq_route.specs.Work.{Work, last_will, leaves_behind, remove, said, shut, shut_down, will_after}
 use Rattle.mq_hub.specs.declared.sessions.session.BrokerSession.{BrokerSession}
 use Rattle.mq_hub.specs.Inside.Refinement.{Refines}
-use Rattle.mq_hub.specs.Inside.Invariant.{AreApart, HubInvariant, ConnectionHasSession, IsQuiet, SessionMatchesConnection, IsWillWithin, stage_for}
+use Rattle.mq_hub.specs.Inside.Invariant.{AreApart, HubInvariant, ConnectionHasSession, IsQuiet, SessionMatchesConnection, IsWillWithin}
 use Rattle.mq_hub.specs.Inside.Close.{left_with, parted, parts, will_left}
 use Rattle.mq_hub.specs.Inside.View.{HubTables, all_seen, hub_of, seen, waiting_by}
 use Rattle.mq_hub.specs.Inside.Sessions.{session_of, sessions_of, session_at, with_server, without_key}
@@ -37,6 +37,7 @@ use Rattle.mq_hub.proofs.OtherEnd.{all_backed_as, all_owned_as, all_fitting_with
 use Rattle.mq_hub.proofs.ClosedConnection.{closed}
 use Rattle.mq_hub.proofs.SessionLemmas.{ascending_with, ascending_without}
 use Rattle.mq_hub.proofs.PlacedCopies.{end_there}
+use Rattle.mq_flow.specs.Sender.{SenderBook, blank_book, no_claims}
 
 -- ---- connections
 
@@ -187,6 +188,8 @@ module _ (k : Conn) (key : ℕ) (terms : ConnectionTerms) (last_activity : ℕ) 
           known = boxed.known;
           state = boxed.state ∙ ap (λ (o : Option Conn). cond (is_some o) Connected Disconnected) (sym up);
           clean = boxed.clean ∙ ap is_clean (sym (stage_far s.key far xs apart at));
+          keep_alive = boxed.keep_alive ∙ ap keep_alive_on (sym (stage_far s.key far xs apart at));
+          claims = boxed.claims;
           away = λ none. boxed.away (sym up ∙ none);
         }
 
@@ -293,6 +296,8 @@ module _ (config : HubConfig) (next : ℕ) (k : Conn) (key : ℕ) (terms : Conne
           known = cond-false s.end.end.clean false s.end.end.known lasts ∙ boxed.known;
           state = ap (λ (o : Option Conn). cond (is_some o) Connected Disconnected) (sym none);
           clean = ap is_clean (sym (away_shut s.key left none));
+          keep_alive = ap keep_alive_on (sym (away_shut s.key left none));
+          claims = ap (λ (b : SenderBook). b.claimed) (cond-false s.end.end.clean blank_book (no_claims s.end.end.book) lasts);
           away = λ away. refl;
         } in
         let v : HubTables = record t { sessions = record t.sessions { list = with_server key ends ts }; connections = record t.connections { connections = left } } in

@@ -9,12 +9,12 @@ use Rattle.mq_route.specs.declared.config.HubConfig.{HubConfig}
 use Rattle.mq_route.specs.declared.conn.Conn.{Conn}
 use Rattle.mq_route.specs.declared.connection_state.ConnectionState.{ConnectionState}
 use Rattle.mq_route.specs.declared.connection_state.ConnectionState.TheVariants.{AwaitingConnect, ConnectedAs, Closed}
-use Rattle.mq_route.specs.Hub.{HubState, HubConnection, changed, is_for, is_connection, key_on, knows, stage_of, up_on, with_connection}
+use Rattle.mq_route.specs.Hub.{HubState, HubConnection, changed, is_for, is_connection, key_on, knows, stage_of, up_on, with_connection, stage_for}
 use Rattle.mq_route.specs.Routed.{same_conn}
 use Rattle.mq_route.specs.Work.{Work, close, leaves_behind, said, shut, shut_down}
 use Rattle.mq_hub.specs.declared.sessions.session.BrokerSession.{BrokerSession}
 use Rattle.mq_hub.specs.Inside.Refinement.{Refines}
-use Rattle.mq_hub.specs.Inside.Invariant.{AreApart, HubInvariant, ConnectionHasSession, IsQuiet, stage_for}
+use Rattle.mq_hub.specs.Inside.Invariant.{AreApart, HubInvariant, ConnectionHasSession, IsQuiet}
 use Rattle.mq_hub.specs.Inside.View.{HubTables, all_seen, hub_of, seen}
 use Rattle.mq_hub.specs.Inside.Sessions.{sessions_of}
 use Rattle.mq_hub.proofs.ConnectionChange.{own_bytes, rest_unknown, seen_still}

@@ -24,12 +24,12 @@ use Rattle.mq_route.specs.declared.conn.Conn.{Conn}
 use Rattle.mq_route.specs.declared.connection_state.ConnectionState.{ConnectionState}
 use Rattle.mq_route.specs.declared.connection_state.ConnectionState.TheVariants.{AwaitingConnect, ConnectedAs, Closed}
 use Rattle.mq_route.specs.Arrives.{answers, answers_all, resume_session, greeting, terms_of}
-use Rattle.mq_route.specs.Hub.{HubState, HubSession, HubConnection, changed, end_of, is_clean, is_for, is_connection, knows, stage_of, up_on, with_end, with_connection}
+use Rattle.mq_route.specs.Hub.{HubState, HubSession, HubConnection, changed, end_of, is_clean, is_for, is_connection, knows, stage_of, up_on, with_end, with_connection, stage_for, keep_alive_on}
 use Rattle.mq_route.specs.Routed.{same_conn}
 use Rattle.mq_route.specs.Work.{Work, does, put_on, put_where, said, staged, with_sessions}
 use Rattle.mq_hub.specs.declared.sessions.session.BrokerSession.{BrokerSession}
 use Rattle.mq_hub.specs.Inside.Refinement.{Refines}
-use Rattle.mq_hub.specs.Inside.Invariant.{AreApart, HubInvariant, ConnectionHasSession, IsQuiet, SessionMatchesConnection, IsWillWithin, stage_for}
+use Rattle.mq_hub.specs.Inside.Invariant.{AreApart, HubInvariant, ConnectionHasSession, IsQuiet, SessionMatchesConnection, IsWillWithin}
 use Rattle.mq_hub.specs.Inside.ConnectRoom.{has_session, connected_end, roomed, HasConnected, IsRoomed}
 use Rattle.mq_hub.specs.Inside.View.{HubTables, all_seen, hub_of, seen, waiting_by}
 use Rattle.mq_hub.specs.Inside.Sessions.{session_of, sessions_of, session_at, with_server}
@@ -44,6 +44,7 @@ use Rattle.mq_hub.proofs.RefusedConnect.{changed_twice, grown, seen_fresh}
 use Rattle.mq_hub.proofs.OtherEnd.{all_backed_as, all_owned_as, all_fitting_with, below_as, key_is, holds_at, sessions_as}
 use Rattle.mq_hub.proofs.SessionLemmas.{ascending_with}
 use Rattle.mq_hub.proofs.PlacedCopies.{end_there}
+use Rattle.mq_flow.specs.Sender.{SenderBook, blank_book, no_claims}
 
 -- ---- the end and the CONNECT
 
@@ -143,6 +144,8 @@ module _ (config : HubConfig) (next key : ℕ) (t u : HubTables) (kept : HubInva
         known = boxed.known;
         state = boxed.state;
         clean = boxed.clean;
+        keep_alive = boxed.keep_alive;
+        claims = boxed.claims;
         away = boxed.away;
       } in
       let v : HubTables = record t { sessions = record t.sessions { list = with_server key e ts } } in
@@ -182,7 +185,7 @@ module _ (config : HubConfig) (next key : ℕ) (t u : HubTables) (kept : HubInva
 
 -- ---- the connections
 
-some_none : {X : Type 0} {x : X} → Some x ≡ None → ⊥
+pub some_none : {X : Type 0} {x : X} → Some x ≡ None → ⊥
 some_none e = absurd cc
 
 -- no connection is connected for the client: neither the first nor one behind it
@@ -291,10 +294,18 @@ module _ (k : Conn) (key : ℕ) (s : ConnectionState) (for : (c : ℕ) → is_fo
         known = boxed.known;
         state = boxed.state ∙ ap (λ (o : Option Conn). cond (is_some o) Connected Disconnected) (sym up_same);
         clean = boxed.clean ∙ ap is_clean (sym stage_same);
+        keep_alive = boxed.keep_alive ∙ ap keep_alive_on (sym stage_same);
+        claims = boxed.claims;
         away = λ e. boxed.away (sym up_same ∙ e);
       }
 
 -- ---- the session that processes the CONNECT
+
+-- a session that continues has no claims, and neither has a new one
+claims_none : (anew clean : Bool) (b : SenderBook) → (cond anew blank_book (cond clean blank_book (no_claims b))).claimed ≡ []
+claims_none true clean b = refl
+claims_none false true b = refl
+claims_none false false b = refl
 
 abbrev pub stage_by : ℕ → Connect → ℕ → ConnectionState
 stage_by key c now = ConnectedAs key (terms_of c) now
@@ -302,7 +313,7 @@ stage_by key c now = ConnectedAs key (terms_of c) now
 pub for_key : (key : ℕ) (c : Connect) (now n : ℕ) → is_for n (stage_by key c now) ≡ eqb key n
 for_key key c now n = refl
 
-own_up : (key n : ℕ) (k : Conn) (o : Option Conn) → n ≡ key → cond (eqb key n) (Some k) o ≡ Some k
+pub own_up : (key n : ℕ) (k : Conn) (o : Option Conn) → n ≡ key → cond (eqb key n) (Some k) o ≡ Some k
 own_up key n k o same = cond-true (eqb key n) (Some k) o (eq-eqb key n (sym same))
 
 module _ (k : Conn) (key : ℕ) (c : Connect) (now : ℕ) (named : is_anonymous c ≡ false) where
@@ -325,6 +336,8 @@ module _ (k : Conn) (key : ℕ) (c : Connect) (now : ℕ) (named : is_anonymous 
         known = ap (λ (r : Reply). r.end.known) is;
         state = ap (λ (r : Reply). r.end.state) is ∙ ap (λ (o : Option Conn). cond (is_some o) Connected Disconnected) (sym there);
         clean = ap (λ (r : Reply). r.end.clean) is ∙ ap is_clean (sym stage);
+        keep_alive = ap (λ (r : Reply). r.end.keep_alive) is ∙ ap keep_alive_on (sym stage);
+        claims = ap (λ (r : Reply). r.end.book.claimed) is ∙ claims_none c.clean_session e.end.clean e.end.book;
         away = λ no. absurd (some_none (sym there ∙ no));
       }
 

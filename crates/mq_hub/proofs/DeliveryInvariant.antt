@@ -81,6 +81,16 @@ same_clean Q0 i m e = refl
 same_clean Q1 i m e = refl
 same_clean Q2 i m e = refl
 
+same_keep_alive : (q : Qos) (i : ℕ) (m : Message) (e : End) → (publishes_at q i m e).end.keep_alive ≡ e.keep_alive
+same_keep_alive Q0 i m e = refl
+same_keep_alive Q1 i m e = refl
+same_keep_alive Q2 i m e = refl
+
+same_claims : (q : Qos) (i : ℕ) (m : Message) (e : End) → (publishes_at q i m e).end.book.claimed ≡ e.book.claimed
+same_claims Q0 i m e = refl
+same_claims Q1 i m e = refl
+same_claims Q2 i m e = refl
+
 -- nothing is sent if the end is not connected and the message has an identifier
 none_out : (q : Qos) (i : ℕ) (m : Message) (e : End) → is_up e.state ≡ false → has_identifier q ≡ true → (publishes_at q i m e).out ≡ []
 none_out Q0 i m e down has = absurd (true≢false (sym has))
@@ -119,6 +129,8 @@ fitting_placed config xs m s ready boxed =
       known = same_known m.qos i m s.end.end ∙ boxed.known;
       state = same_state m.qos i m s.end.end ∙ boxed.state;
       clean = same_clean m.qos i m s.end.end ∙ boxed.clean;
+      keep_alive = same_keep_alive m.qos i m s.end.end ∙ boxed.keep_alive;
+      claims = same_claims m.qos i m s.end.end ∙ boxed.claims;
       away = λ none.
           let down = ap is_up boxed.state ∙ down_none (up_on s.key xs) none in
           ap₂ (λ (b : List ℕ) (ps : List Packet). b ++ encodings ps) (boxed.away none) (none_out m.qos i m s.end.end down (has_one m s.end ready down));

@@ -181,6 +181,8 @@ module _ (key now : ℕ) where
         known = fits.known;
         state = fits.state;
         clean = fits.clean;
+        keep_alive = fits.keep_alive;
+        claims = fits.claims;
         away = fits.away;
       }
 

@@ -51,9 +51,11 @@ pub record Stays (old new : End) : Type 0 where
   pub known : new.known ≡ old.known
   pub state : new.state ≡ old.state
   pub clean : new.clean ≡ old.clean
+  pub keep_alive : new.keep_alive ≡ old.keep_alive
+  pub claims : new.book.claimed ≡ old.book.claimed
 
 still : (e : End) → Stays e e
-still e = record { window = refl; known = refl; state = refl; clean = refl }
+still e = record { window = refl; known = refl; state = refl; clean = refl; keep_alive = refl; claims = refl }
 
 publish_stays : (q : Qos) (d : Option Delivery) (m : Message) (e : End) → (publish_gets q d m e).close ≡ None → Stays e (publish_gets q d m e).end
 publish_stays Q0 None m e lives = still e
@@ -64,17 +66,17 @@ publish_stays Q2 None m e lives = absurd (some_none lives)
 publish_stays Q2 (Some d) m e lives = go (fits_window e.window d.id e.received) lives
   where
     go : (b : Bool) → (cond b (stores d.id m e) (closes reasons.Window e)).close ≡ None → Stays e (cond b (stores d.id m e) (closes reasons.Window e)).end
-    go true lives = record { window = refl; known = refl; state = refl; clean = refl }
+    go true lives = record { window = refl; known = refl; state = refl; clean = refl; keep_alive = refl; claims = refl }
     go false lives = absurd (some_none lives)
 
 up_stays : (p : Packet) (e : End) → (server_up_gets p e).close ≡ None → Stays e (server_up_gets p e).end
 up_stays (packets.Connect c) e lives = absurd (some_none lives)
 up_stays (packets.ConnAck a) e lives = absurd (some_none lives)
 up_stays (packets.Publish p) e lives = publish_stays p.message.qos p.delivery p.message e lives
-up_stays (packets.PubAck i) e lives = record { window = refl; known = refl; state = refl; clean = refl }
-up_stays (packets.PubRec i) e lives = record { window = refl; known = refl; state = refl; clean = refl }
-up_stays (packets.PubRel i) e lives = record { window = refl; known = refl; state = refl; clean = refl }
-up_stays (packets.PubComp i) e lives = record { window = refl; known = refl; state = refl; clean = refl }
+up_stays (packets.PubAck i) e lives = record { window = refl; known = refl; state = refl; clean = refl; keep_alive = refl; claims = refl }
+up_stays (packets.PubRec i) e lives = record { window = refl; known = refl; state = refl; clean = refl; keep_alive = refl; claims = refl }
+up_stays (packets.PubRel i) e lives = record { window = refl; known = refl; state = refl; clean = refl; keep_alive = refl; claims = refl }
+up_stays (packets.PubComp i) e lives = record { window = refl; known = refl; state = refl; clean = refl; keep_alive = refl; claims = refl }
 up_stays (packets.Subscribe i rs) e lives = still e
 up_stays (packets.SubAck i cs) e lives = absurd (some_none lives)
 up_stays (packets.Unsubscribe i fs) e lives = still e
@@ -213,6 +215,8 @@ module _ (config : HubConfig) (next key : ℕ) (s : BrokerSession) (e : EndState
         known = ap (λ (x : End). x.known) is ∙ stays.known ∙ boxed.known;
         state = ap (λ (x : End). x.state) is ∙ stays.state ∙ boxed.state;
         clean = ap (λ (x : End). x.clean) is ∙ stays.clean ∙ boxed.clean;
+        keep_alive = ap (λ (x : End). x.keep_alive) is ∙ stays.keep_alive ∙ boxed.keep_alive;
+        claims = ap (λ (x : End). x.book.claimed) is ∙ stays.claims ∙ boxed.claims;
         away = λ none. absurd (some_none (sym on ∙ ap (λ (n : ℕ). up_on n xs) (sym (key_there key s ts there)) ∙ none));
       } in record {
         capacity = kept.capacity;

@@ -49,7 +49,7 @@ use Rattle.mq_hub.proofs.EndReplies.{Stays, kept_replied, on_at, replied_goes}
 
 -- ---- whose rows they are
 
-put_owned : (P : ℕ → Type 0) (key : ℕ) (f : List ℕ) (q : Qos) (rows : List Row) → P key → AllByRecursion (λ r. P r.0.0) rows → AllByRecursion (λ r. P r.0.0) (with_row key f q rows)
+pub put_owned : (P : ℕ → Type 0) (key : ℕ) (f : List ℕ) (q : Qos) (rows : List Row) → P key → AllByRecursion (λ r. P r.0.0) rows → AllByRecursion (λ r. P r.0.0) (with_row key f q rows)
 put_owned P key f q [] p all = (p, tt)
 put_owned P key f q (r ∷ rows) p all = go (key_cmp (key, f) r.0) (put_owned P key f q rows p all.1)
   where
@@ -238,7 +238,7 @@ module _ (config : HubConfig) (next key : ℕ) (t u : HubTables) (kept : HubInva
 -- ---- UNSUBSCRIBE
 
 dropped_stays : (i : ℕ) (e : End) → e.state ≡ Connected → Stays e (reply_of (Drops i) e).end
-dropped_stays i e up = record { window = refl; known = refl; state = refl; clean = refl }
+dropped_stays i e up = record { window = refl; known = refl; state = refl; clean = refl; keep_alive = refl; claims = refl }
 
 module _ (config : HubConfig) (next key : ℕ) (t u : HubTables) (kept : HubInvariant config next t) (k : Conn) (on : up_on key t.connections.connections ≡ Some k) (i : ℕ) (fs : List (List ℕ))
     (a : Answers key (Drops i) (without_rows key fs t.rows) t u) where

@@ -8,12 +8,12 @@ use Rattle.mq_route.specs.declared.config.HubConfig.{HubConfig}
 use Rattle.mq_route.specs.declared.conn.Conn.{Conn}
 use Rattle.mq_route.specs.declared.connection_state.ConnectionState.{ConnectionState}
 use Rattle.mq_route.specs.declared.connection_state.ConnectionState.TheVariants.{AwaitingConnect}
-use Rattle.mq_route.specs.Hub.{HubConnection, is_clean, is_for, knows, up_on}
+use Rattle.mq_route.specs.Hub.{HubConnection, is_clean, is_for, knows, up_on, stage_for, keep_alive_on}
 use Rattle.mq_route.specs.Routed.{same_conn}
 use Rattle.mq_topic.specs.Rows.{Row}
 use Rattle.mq_packet.specs.declared.message.Message.{Message}
 use Rattle.mq_hub.specs.declared.sessions.session.BrokerSession.{BrokerSession}
-use Rattle.mq_hub.specs.Inside.Invariant.{AreApart, HubInvariant, ConnectionHasSession, IsQuiet, SessionMatchesConnection, IsWithin, HasSession, stage_for}
+use Rattle.mq_hub.specs.Inside.Invariant.{AreApart, HubInvariant, ConnectionHasSession, IsQuiet, SessionMatchesConnection, IsWithin, HasSession}
 use Rattle.mq_hub.specs.Inside.View.{HubTables}
 use Rattle.mq_hub.specs.Inside.Sessions.{AreAscending, AreBelow}
 use Rattle.mq_hub.proofs.ConnectionTable.{symm}
@@ -55,6 +55,8 @@ fitting_same config xs ys up stage t boxed = record {
   known = boxed.known;
   state = boxed.state ∙ ap (λ (o : Option Conn). cond (is_some o) Connected Disconnected) (sym (up t.key));
   clean = boxed.clean ∙ ap is_clean (sym (stage t.key));
+  keep_alive = boxed.keep_alive ∙ ap keep_alive_on (sym (stage t.key));
+  claims = boxed.claims;
   away = λ none. boxed.away (sym (up t.key) ∙ none);
 }
 

@@ -62,3 +62,9 @@ pub mod ExpiredSessions
 pub mod Spaces
 pub mod FittingMessages
 pub mod PendingLengths
+pub mod SavedSessions
+pub mod SavedConnections
+pub mod LoadedParts
+pub mod LoadedConnections
+pub mod QuietHub
+mod Begins

@@ -84,11 +84,11 @@ module _ (t : BrokerSession) where
       of (ConnectedAs c terms last_activity) e = output_before c ts e
       of Closed e = refl
 
-  all_last : (P : BrokerSession → Type 0) (ts : List BrokerSession) → AllByRecursion P ts → P t → AllByRecursion P (ts ++ t ∷ [])
+  pub all_last : (P : BrokerSession → Type 0) (ts : List BrokerSession) → AllByRecursion P ts → P t → AllByRecursion P (ts ++ t ∷ [])
   all_last P [] all own = (own, tt)
   all_last P (s ∷ ts) all own = (all.0, all_last P ts all.1 own)
 
-  backed_last : (most : ℕ) (ts : List BrokerSession) (xs : List HubConnection) → AllByRecursion (λ x. ConnectionHasSession most ts x.stage) xs → AllByRecursion (λ x. ConnectionHasSession most (ts ++ t ∷ []) x.stage) xs
+  pub backed_last : (most : ℕ) (ts : List BrokerSession) (xs : List HubConnection) → AllByRecursion (λ x. ConnectionHasSession most ts x.stage) xs → AllByRecursion (λ x. ConnectionHasSession most (ts ++ t ∷ []) x.stage) xs
   backed_last most ts [] all = tt
   backed_last most ts (x ∷ xs) all = (of x.stage all.0, backed_last most ts xs all.1)
     where
@@ -97,7 +97,7 @@ module _ (t : BrokerSession) where
       of (ConnectedAs c terms last_activity) backed = (found_last c ts backed.0, backed.1)
       of Closed backed = tt
 
-  owned_last : (ts : List BrokerSession) (rs : List Row) → AllByRecursion (λ r. HasSession ts r.0.0) rs → AllByRecursion (λ r. HasSession (ts ++ t ∷ []) r.0.0) rs
+  pub owned_last : (ts : List BrokerSession) (rs : List Row) → AllByRecursion (λ r. HasSession ts r.0.0) rs → AllByRecursion (λ r. HasSession (ts ++ t ∷ []) r.0.0) rs
   owned_last ts [] all = tt
   owned_last ts (r ∷ rs) all = (found_last r.0.0 ts all.0, owned_last ts rs all.1)
 

@@ -7,10 +7,10 @@ use Rattle.mq_end.specs.declared.state.State.TheVariants.{Disconnected, Connecte
 use Rattle.mq_route.specs.declared.config.HubConfig.{HubConfig}
 use Rattle.mq_route.specs.declared.connection_state.ConnectionState.{ConnectionState}
 use Rattle.mq_route.specs.declared.connection_state.ConnectionState.TheVariants.{AwaitingConnect, ConnectedAs, Closed}
-use Rattle.mq_route.specs.Hub.{HubConnection, is_clean, up_on}
+use Rattle.mq_route.specs.Hub.{HubConnection, is_clean, up_on, stage_for, keep_alive_on}
 use Rattle.mq_hub.specs.declared.sessions.session.BrokerSession.{BrokerSession}
 use Rattle.mq_hub.specs.Inside.Requests.{AreAlike}
-use Rattle.mq_hub.specs.Inside.Invariant.{HubInvariant, ConnectionHasSession, SessionMatchesConnection, HasSession, stage_for}
+use Rattle.mq_hub.specs.Inside.Invariant.{HubInvariant, ConnectionHasSession, SessionMatchesConnection, HasSession}
 use Rattle.mq_hub.specs.Inside.Connections.{ConnectionList}
 use Rattle.mq_hub.specs.Inside.Retained.{RetainedTable}
 use Rattle.mq_hub.specs.Inside.Placement.{AreSameButRoom, roomless}
@@ -88,6 +88,8 @@ alike_session config xs o n e boxed = record {
   known = ap (λ (x : BrokerSession). x.end.end.known) e ∙ boxed.known;
   state = ap (λ (x : BrokerSession). x.end.end.state) e ∙ boxed.state ∙ ap (λ (k : ℕ). cond (is_some (up_on k xs)) Connected Disconnected) (sym (alike_key n o e));
   clean = ap (λ (x : BrokerSession). x.end.end.clean) e ∙ boxed.clean ∙ ap (λ (x : BrokerSession). is_clean (stage_for x.key xs)) (sym e);
+  keep_alive = ap (λ (x : BrokerSession). x.end.end.keep_alive) e ∙ boxed.keep_alive ∙ ap (λ (x : BrokerSession). keep_alive_on (stage_for x.key xs)) (sym e);
+  claims = ap (λ (x : BrokerSession). x.end.end.book.claimed) e ∙ boxed.claims;
   away = λ none. ap (λ (x : BrokerSession). x.end.output) e ∙ boxed.away (ap (λ (k : ℕ). up_on k xs) (sym (alike_key n o e)) ∙ none);
 }
 

@@ -8,11 +8,11 @@ use Rattle.mq_route.specs.declared.conn.Conn.{Conn}
 use Rattle.mq_route.specs.declared.connection_state.ConnectionState.{ConnectionState}
 use Rattle.mq_route.specs.declared.connection_state.ConnectionState.TheVariants.{AwaitingConnect, ConnectedAs, Closed}
 use Rattle.mq_route.specs.Arrives.{touched}
-use Rattle.mq_route.specs.Hub.{HubConnection, changed, held_on, is_clean, is_for, is_connection, knows, up_on}
+use Rattle.mq_route.specs.Hub.{HubConnection, changed, held_on, is_clean, is_for, is_connection, knows, up_on, stage_for, keep_alive_on}
 use Rattle.mq_route.specs.Routed.{same_conn}
 use Rattle.mq_hub.specs.declared.sessions.session.BrokerSession.{BrokerSession}
 use Rattle.mq_hub.specs.Inside.Input.{touched_at, holds}
-use Rattle.mq_hub.specs.Inside.Invariant.{AreApart, HubInvariant, ConnectionHasSession, IsQuiet, SessionMatchesConnection, stage_for}
+use Rattle.mq_hub.specs.Inside.Invariant.{AreApart, HubInvariant, ConnectionHasSession, IsQuiet, SessionMatchesConnection}
 use Rattle.mq_hub.specs.Inside.View.{HubTables, all_seen, hub_of, seen, waiting_by}
 use Rattle.mq_hub.specs.Inside.Sessions.{sessions_of}
 use Rattle.mq_hub.proofs.InvariantChanges.{kept_by}
@@ -23,6 +23,7 @@ pub record StaysFor (f : HubConnection → HubConnection) : Type 0 where
   pub name : (x : HubConnection) → (f x).conn ≡ x.conn
   pub client : (key : ℕ) (x : HubConnection) → is_for key (f x).stage ≡ is_for key x.stage
   pub clean : (x : HubConnection) → is_clean (f x).stage ≡ is_clean x.stage
+  pub keep_alive : (x : HubConnection) → keep_alive_on (f x).stage ≡ keep_alive_on x.stage
   pub backed : (most : ℕ) (ts : List BrokerSession) (x : HubConnection) → ConnectionHasSession most ts x.stage → ConnectionHasSession most ts (f x).stage
   pub quiet : (x : HubConnection) → IsQuiet x.stage x.waiting → IsQuiet (f x).stage (f x).waiting
   pub seen : (ts : List BrokerSession) (x : HubConnection) → seen ts (f x) ≡ f (seen ts x)
@@ -33,6 +34,7 @@ stays_on k f s = record {
   name = λ x. name x (is_connection k x);
   client = λ key x. client key x (is_connection k x);
   clean = λ x. clean x (is_connection k x);
+  keep_alive = λ x. keep_alive x (is_connection k x);
   backed = λ most ts x. backed most ts x (is_connection k x);
   quiet = λ x. quiet x (is_connection k x);
   seen = λ ts x. see ts x (is_connection k x);
@@ -49,6 +51,10 @@ stays_on k f s = record {
     clean : (x : HubConnection) (b : Bool) → is_clean (cond b (f x) x).stage ≡ is_clean x.stage
     clean x true = s.clean x
     clean x false = refl
+
+    keep_alive : (x : HubConnection) (b : Bool) → keep_alive_on (cond b (f x) x).stage ≡ keep_alive_on x.stage
+    keep_alive x true = s.keep_alive x
+    keep_alive x false = refl
 
     backed : (most : ℕ) (ts : List BrokerSession) (x : HubConnection) (b : Bool) → ConnectionHasSession most ts x.stage → ConnectionHasSession most ts (cond b (f x) x).stage
     backed most ts x true = s.backed most ts x
@@ -67,15 +73,15 @@ module _ (g : HubConnection → HubConnection) (s : StaysFor g) where
   up_alike key [] = refl
   up_alike key (x ∷ xs) = λ i. cond (s.client key x i) (Some (s.name x i)) (up_alike key xs i)
 
-  clean_alike : (key : ℕ) (xs : List HubConnection) → is_clean (stage_for key (map g xs)) ≡ is_clean (stage_for key xs)
-  clean_alike key [] = refl
-  clean_alike key (x ∷ xs) =
-      ap (λ (b : Bool). is_clean (cond b (g x).stage (stage_for key (map g xs)))) (s.client key x)
-      ∙ go (is_for key x.stage) (clean_alike key xs)
+  -- what is kept of each state is kept of that of a client's connection
+  stage_alike : {X : Type 0} (p : ConnectionState → X) → ((x : HubConnection) → p (g x).stage ≡ p x.stage) → (key : ℕ) (xs : List HubConnection) → p (stage_for key (map g xs)) ≡ p (stage_for key xs)
+  stage_alike p same key [] = refl
+  stage_alike p same key (x ∷ xs) =
+      ap (λ (b : Bool). p (cond b (g x).stage (stage_for key (map g xs)))) (s.client key x)
+      ∙ go (is_for key x.stage) (stage_alike p same key xs)
     where
-      go : (b : Bool) → is_clean (stage_for key (map g xs)) ≡ is_clean (stage_for key xs)
-          → is_clean (cond b (g x).stage (stage_for key (map g xs))) ≡ is_clean (cond b x.stage (stage_for key xs))
-      go true rest = s.clean x
+      go : (b : Bool) → p (stage_for key (map g xs)) ≡ p (stage_for key xs) → p (cond b (g x).stage (stage_for key (map g xs))) ≡ p (cond b x.stage (stage_for key xs))
+      go true rest = same x
       go false rest = rest
 
   known_alike : (k : Conn) (xs : List HubConnection) → knows k (map g xs) ≡ knows k xs
@@ -106,7 +112,9 @@ module _ (g : HubConnection → HubConnection) (s : StaysFor g) where
     window = boxed.window;
     known = boxed.known;
     state = boxed.state ∙ ap (λ (o : Option Conn). cond (is_some o) Connected Disconnected) (sym (up_alike t.key xs));
-    clean = boxed.clean ∙ sym (clean_alike t.key xs);
+    clean = boxed.clean ∙ sym (stage_alike is_clean s.clean t.key xs);
+    keep_alive = boxed.keep_alive ∙ sym (stage_alike keep_alive_on s.keep_alive t.key xs);
+    claims = boxed.claims;
     away = λ none. boxed.away (sym (up_alike t.key xs) ∙ none);
   }
 
@@ -163,6 +171,7 @@ holds_stays b = record {
   name = λ x. refl;
   client = λ key x. refl;
   clean = λ x. refl;
+  keep_alive = λ x. refl;
   backed = λ most ts x h. h;
   quiet = λ x h. h;
   seen = λ ts x. refl;
@@ -173,6 +182,7 @@ hears_stays now = record {
   name = λ x. refl;
   client = λ key x. client key x.stage;
   clean = λ x. clean x.stage;
+  keep_alive = λ x. keep_alive x.stage;
   backed = λ most ts x. backed most ts x.stage;
   quiet = λ x. quiet x.waiting x.stage;
   seen = λ ts x. ap (λ (b : List ℕ). record (touched_at now x) { waiting = b }) (waits ts x.waiting x.stage);
@@ -187,6 +197,11 @@ hears_stays now = record {
     clean AwaitingConnect = refl
     clean (ConnectedAs other terms last_activity) = refl
     clean Closed = refl
+
+    keep_alive : (s : ConnectionState) → keep_alive_on (touched now s) ≡ keep_alive_on s
+    keep_alive AwaitingConnect = refl
+    keep_alive (ConnectedAs other terms last_activity) = refl
+    keep_alive Closed = refl
 
     backed : (most : ℕ) (ts : List BrokerSession) (s : ConnectionState) → ConnectionHasSession most ts s → ConnectionHasSession most ts (touched now s)
     backed most ts AwaitingConnect h = h

@@ -59,9 +59,9 @@ publish_still : (m : Message) (e : End) → Stays e (publishes_next m e).end
 publish_still m e = go m.qos (next_identifier e.last e.book)
   where
     go : (q : Qos) (i : ℕ) → Stays e (publishes_at q i m e).end
-    go Q0 i = record { window = refl; known = refl; state = refl; clean = refl }
-    go Q1 i = record { window = refl; known = refl; state = refl; clean = refl }
-    go Q2 i = record { window = refl; known = refl; state = refl; clean = refl }
+    go Q0 i = record { window = refl; known = refl; state = refl; clean = refl; keep_alive = refl; claims = refl }
+    go Q1 i = record { window = refl; known = refl; state = refl; clean = refl; keep_alive = refl; claims = refl }
+    go Q2 i = record { window = refl; known = refl; state = refl; clean = refl; keep_alive = refl; claims = refl }
 
 one_placed : (config : HubConfig) (next key : ℕ) (t : HubTables) → HubInvariant config next t → (k : Conn) → up_on key t.connections.connections ≡ Some k → (s : BrokerSession) → session_at key t.sessions.list ≡ Some s
     → (m : Message) → HubInvariant config next (with_list (placed_at key m t.sessions.list) t)
@@ -165,7 +165,7 @@ module _ (config : HubConfig) (next key : ℕ) (t u : HubTables) (kept : HubInva
   kept_between : HubInvariant config next s.between
   kept_between =
       kept_answered config next key t s.between kept k on (Grants i (granted rs)) (with_rows key rs t.rows) owned s.answers
-      (λ up. record { window = refl; known = refl; state = refl; clean = refl })
+      (λ up. record { window = refl; known = refl; state = refl; clean = refl; keep_alive = refl; claims = refl })
 
   pub kept_subscribed : HubInvariant config next u
   kept_subscribed =

@@ -117,6 +117,8 @@ module _ (config : HubConfig) (next key : ℕ) (room : Room) (s : BrokerSession)
         known = boxed.known;
         state = boxed.state;
         clean = boxed.clean;
+        keep_alive = boxed.keep_alive;
+        claims = boxed.claims;
         away = λ none. refl;
       } in
       let v : HubTables = record t { sessions = record t.sessions { list = with_server key e ts } } in

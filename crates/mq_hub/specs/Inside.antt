@@ -11,6 +11,7 @@ pub mod Expiry
 pub mod Settlement
 pub mod Input
 pub mod Invariant
+pub mod Loading
 pub mod Logs
 pub mod Numbers
 pub mod Output

@@ -75,6 +75,13 @@ impl<S: FilterStore> HubOver<S> {
         }
     }
 
+    /// Returns the time in milliseconds: the latest one that a tick reported.
+    pub fn clock(&self) -> u64
+        ensures { result ≡ self.now.clock }
+    {
+        self.clock
+    }
+
     /// Whether a connection is known: it was opened and has not ended.
     pub fn knows(&self, conn: Conn) -> bool
         ensures { result ≡ knows conn self.now.connections }

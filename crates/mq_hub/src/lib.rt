@@ -10,6 +10,7 @@
 
 mod accounts;
 mod acts;
+mod begin;
 mod close;
 mod connect;
 mod connections;
@@ -21,6 +22,7 @@ mod publish;
 mod retained;
 mod run;
 mod sessions;
+mod snapshot;
 mod step;
 mod subscribe;
 mod subscriptions;
@@ -35,3 +37,4 @@ pub use mq_route::{
     Act, ClientLog, Conn, HashedUser, HubClose, HubConfig, HubEvent, HubRefusal, HubReply,
     HubTrace, User, WhenFull,
 };
+pub use mq_snapshot::SnapshotFault;

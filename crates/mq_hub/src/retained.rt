@@ -4,12 +4,14 @@ ghost use Rattle.std.specs.Prelude.{◌≡◌, ◌+◌, ◌≤◌, ◌<◌, ◌+
 ghost use Rattle.std.specs.List.{list_any};
 ghost use Rattle.indexmap.specs.IndexMap.{spare, values};
 ghost use Rattle.mq_route.specs.Copies.{is_of, kept, replaced, retained_for};
+ghost use Rattle.mq_route.specs.Snapshot.{listed, saved_message};
 ghost use Rattle.mq_packet.specs.declared.message.Message.{Message};
 ghost use Rattle.mq_hub.specs.Inside.Retained.{AreKept, IsKeptOf};
 
 use crate::publish::recipients::{copy, is_hidden_name};
 use indexmap::IndexMap;
 use mq_packet::Message;
+use mq_snapshot::{put_eight, put_message};
 use mq_topic::{Qos, TopicFilter, TopicName, matches};
 use std::alloc::{AllocError, Global};
 use std::marker::Model;
@@ -76,6 +78,18 @@ fn copies_of(
         }
     }
     Ok(copies)
+}
+
+// Appends the number of messages, and the messages.
+#[tactic(auto, using(std::proofs::Common::append_assoc))]
+fn save_all(by_name: &ByName, out: &mut Vec<u8>) -> Result<(), AllocError>
+    ensures { OnOk result (out.new.items ≡ out.old.items ++ listed saved_message (values by_name.now)) }
+{
+    put_eight(out, by_name.len() as u64)?;
+    for message in by_name.values() {
+        put_message(out, message)?;
+    }
+    Ok(())
 }
 
 /// Returns the entry to retain for a message. `None` if RETAIN is not set (3.3.1.3) or the name
@@ -160,5 +174,12 @@ impl Retained {
         ensures { IfOk result (λ ms. ms.items ≡ retained_for filter.now qos self.now.messages) }
     {
         copies_of(alloc, &self.by_name, filter, qos)
+    }
+
+    /// Appends the retained messages to a snapshot, after their number.
+    pub(crate) fn save(&self, out: &mut Vec<u8>) -> Result<(), AllocError>
+        ensures { OnOk result (out.new.items ≡ out.old.items ++ listed saved_message self.now.messages) }
+    {
+        save_all(&self.by_name, out)
     }
 }

@@ -3,5 +3,6 @@
 pub(crate) mod call;
 pub(crate) mod names;
 pub(crate) mod remove;
+pub(crate) mod save;
 pub(crate) mod session;
 pub(crate) mod table;

@@ -9,7 +9,7 @@ use Rattle.mq_route.specs.declared.config.HubConfig.{HubConfig}
 use Rattle.mq_route.specs.declared.connection_state.ConnectionState.{ConnectionState}
 use Rattle.mq_route.specs.declared.connection_state.ConnectionState.TheVariants.{AwaitingConnect, ConnectedAs, Closed}
 use Rattle.mq_route.specs.Copies.{will_message}
-use Rattle.mq_route.specs.Hub.{HubConnection, is_clean, is_for, knows, up_on}
+use Rattle.mq_route.specs.Hub.{HubConnection, is_clean, is_for, knows, stage_for, up_on, keep_alive_on}
 use Rattle.mq_hub.specs.declared.connections.table.ConnectionLimits.{ConnectionLimits}
 use Rattle.mq_hub.specs.declared.sessions.session.BrokerSession.{BrokerSession}
 use Rattle.mq_hub.specs.Inside.Sessions.{session_at, AreAscending, AreBelow}
@@ -24,14 +24,9 @@ abbrev pub AreApart : List HubConnection → Type 0
 AreApart [] = Unit {0}
 AreApart (x ∷ xs) = (knows x.conn xs ≡ false) × ((key : ℕ) → is_for key x.stage ≡ true → up_on key xs ≡ None) × AreApart xs
 
--- the state of the connection on which a client is connected; `Closed` if there is none
-abbrev pub stage_for : ℕ → List HubConnection → ConnectionState
-stage_for key [] = Closed
-stage_for key (x ∷ xs) = if is_for key x.stage then x.stage else stage_for key xs
-
--- A session fits the connections: its end has the configured limits and is known. It is connected
--- if and only if its client is connected, with the clean session flag of that connection. Otherwise
--- it has no pending output.
+-- A session fits the connections: its end has the configured limits and is known, and waits for no
+-- SUBACK or UNSUBACK. It is connected if and only if its client is connected, with the clean
+-- session flag and the keep-alive of that connection. Otherwise it has no pending output.
 pub record SessionMatchesConnection (config : HubConfig) (xs : List HubConnection) (t : BrokerSession) : Type 0 where
   pub capacity : t.end.capacity ≡ config.capacity
   pub limit : t.end.limit ≡ config.limits
@@ -39,6 +34,8 @@ pub record SessionMatchesConnection (config : HubConfig) (xs : List HubConnectio
   pub known : t.end.end.known ≡ true
   pub state : t.end.end.state ≡ (if is_some (up_on t.key xs) then Connected else Disconnected)
   pub clean : t.end.end.clean ≡ is_clean (stage_for t.key xs)
+  pub keep_alive : t.end.end.keep_alive ≡ keep_alive_on (stage_for t.key xs)
+  pub claims : t.end.end.book.claimed ≡ []
   pub away : up_on t.key xs ≡ None → t.end.output ≡ []
 
 -- the session of this key exists

@@ -81,8 +81,8 @@ impl Sessions {
 }
 
 impl<S: FilterStore> Tables<S> {
-    // Makes room for one more connected client.
-    fn reserve_for_connect(&mut self) -> Result<(), AllocError>
+    /// Makes room for one more connected client.
+    pub(crate) fn reserve_for_connect(&mut self) -> Result<(), AllocError>
         ensures ok { OnOk result (0 < self.new.connections.up_room) }
         ensures connections { self.new.connections.connections ≡ self.old.connections.connections }
         ensures limits { self.new.connections.limits ≡ self.old.connections.limits }

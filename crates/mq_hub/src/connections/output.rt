@@ -1,6 +1,6 @@
 //! The pending output of a connection (4.2).
 
-ghost use Rattle.std.specs.Prelude.{◌≡◌, length, true, IfOk, IfErr, OnOk, OnErr};
+ghost use Rattle.std.specs.Prelude.{◌≡◌, ◌<◌, length, true, IfOk, IfErr, IfSome, OnOk, OnErr};
 ghost use Rattle.mq_route.specs.Hub.{is_open, knows, new_end, stage_of, waiting_on};
 ghost use Rattle.mq_route.specs.Step.{HubStep, collected};
 
@@ -23,6 +23,20 @@ impl<S: FilterStore> HubOver<S> {
         ensures { result ≡ is_open (stage_of conn self.now.connections) }
     {
         self.tables.is_open_near(conn, place)
+    }
+
+    /// The configuration of server ends.
+    pub(crate) fn end_config(&self) -> ServerConfig
+        ensures limits { result.limits ≡ self.now.config.limits }
+        ensures capacity { result.capacity ≡ self.now.config.capacity }
+        ensures window { result.window ≡ self.now.config.window }
+        ensures places { IfSome self.now.config.window (λ places. 0 < places) }
+    {
+        ServerConfig {
+            limits: self.config.limits,
+            capacity: self.config.capacity,
+            window: self.config.window,
+        }
     }
 
     /// Returns a new server end. It serves a new session, or takes the place of a session's end in

@@ -1,6 +1,6 @@
 //! The table of connections (4.2).
 
-ghost use Rattle.std.specs.Prelude.{◌≡◌, ◌+◌, ◌*◌, ◌≤◌, ◌<◌, ℕ, [], ◌∷◌, ◌++◌, length, slice_get, Some, None, nat_eq, true, false, is_some, if◌then◌else◌, OnOk, OnErr, IfNone, IfOk, IfSome};
+ghost use Rattle.std.specs.Prelude.{◌≡◌, ◌+◌, ◌*◌, ◌≤◌, ◌<◌, ℕ, [], ◌∷◌, ◌++◌, length, map, slice_get, Some, None, nat_eq, true, false, is_some, if◌then◌else◌, OnOk, OnErr, IfNone, IfOk, IfSome};
 ghost use Rattle.std.specs.HashMap.{get, hash_map_len, spare};
 ghost use Rattle.std.specs.List.{AllByRecursion, IsDistinct};
 ghost use Rattle.std.specs.List.Sorted.{IsNonDecreasing};
@@ -9,6 +9,7 @@ ghost use Rattle.std.specs.Option.{option_copied, option_map};
 ghost use Rattle.mq_route.specs.Arrives.{touched};
 ghost use Rattle.mq_route.specs.Hub.{held_on, key_on, knows, stage_of, up_on, waiting_on, with_connection, without_connection};
 ghost use Rattle.mq_route.specs.Routed.{same_conn};
+ghost use Rattle.mq_route.specs.Snapshot.{listed, saved_connection};
 ghost use Rattle.mq_route.specs.Welcome.{up_count};
 ghost use Rattle.mq_hub.specs.Inside.Alarms.{AreAwaited, AreAwaitedBut, IsAwaited, RingsWith};
 ghost use Rattle.mq_hub.specs.Inside.Connections.{connection_of, connections_of, IsDecoding, IsNamedAt, IsReading};
@@ -21,6 +22,7 @@ use indexmap::IndexMap;
 use mq_decode::{Decoder, Limits};
 use mq_end::ByteQueue;
 use mq_route::{Conn, ConnectionState, ConnectionTerms};
+use mq_snapshot::{put_connection, put_eight};
 use mq_topic::ClientKey;
 use std::alloc::{AllocError, Global};
 use std::collections::HashMap;
@@ -205,6 +207,43 @@ fn find_late(
     let mut places = find_named(alloc, within, by_conn, alarms, &mut names, now)?;
     places.sort_unstable();
     Ok(places)
+}
+
+// The names of connections, in the order in which they were opened.
+fn names_of(alloc: Global, by_conn: &ByConn) -> Result<Vec<Conn>, AllocError>
+    ensures { IfOk result (λ names. names.items ≡ map (λ x. x.conn) (connections_of by_conn.now.entries)) }
+{
+    let mut names = Vec::with_capacity(alloc, by_conn.len())?;
+    for boxed in by_conn.values() {
+        names.push(boxed.connection().conn)?;
+    }
+    Ok(names)
+}
+
+#[tactic(auto, unfolding(mq_route::specs::Snapshot::saved_connection))]
+fn save_one(boxed: &BoxedConnection, out: &mut Vec<u8>) -> Result<(), AllocError>
+    ensures { OnOk result (out.new.items ≡ out.old.items ++ saved_connection (connection_of boxed.now)) }
+{
+    let Connection {
+        conn,
+        stage,
+        since,
+        decoder,
+        ..
+    } = boxed.connection();
+    put_connection(out, *conn, stage, *since, decoder.held_bytes())
+}
+
+// Appends the number of connections, and the connections.
+#[tactic(auto, using(std::proofs::Common::append_assoc))]
+fn save_all(by_conn: &ByConn, out: &mut Vec<u8>) -> Result<(), AllocError>
+    ensures { OnOk result (out.new.items ≡ out.old.items ++ listed saved_connection (connections_of by_conn.now.entries)) }
+{
+    put_eight(out, by_conn.len() as u64)?;
+    for boxed in by_conn.values() {
+        save_one(boxed, out)?;
+    }
+    Ok(())
 }
 
 impl Connections {
@@ -473,6 +512,20 @@ impl Connections {
         ensures { (now : ℕ) → now ≤ result → AreInTime self.now.limits.connect_within now self.now.connections }
     {
         self.alarms.quiet_until()
+    }
+
+    /// Returns the names of the connections, in the order in which they were opened.
+    pub(crate) fn names(&self, alloc: Global) -> Result<Vec<Conn>, AllocError>
+        ensures { IfOk result (λ names. names.items ≡ map (λ x. x.conn) self.now.connections) }
+    {
+        names_of(alloc, &self.by_conn)
+    }
+
+    /// Appends the connections to a snapshot, after their number.
+    pub(crate) fn save(&self, out: &mut Vec<u8>) -> Result<(), AllocError>
+        ensures { OnOk result (out.new.items ≡ out.old.items ++ listed saved_connection self.now.connections) }
+    {
+        save_all(&self.by_conn, out)
     }
 
     /// Removes a connection on which no client is connected (4.2).
