@@ -1,5 +1,5 @@
 -- Messages that a source gives one after another.
-use Rattle.std.proofs.Common.{◌≡◌, List, [], ◌∷◌, ◌++◌, Option, Some, None, refl, sym, ◌∙◌, ap, append_assoc}
+use Rattle.std.proofs.Common.{List, [], ◌++◌, Option, Some, None, refl, sym, ◌∙◌, ap, append_assoc}
 use Rattle.mq_packet.specs.declared.message.Message.{Message}
 use Rattle.mq_pubsub.specs.Giving.{Gives}
 

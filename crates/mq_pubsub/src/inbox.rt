@@ -1,7 +1,7 @@
 //! How far a subscriber is, and which messages it prints.
 
-ghost use Rattle.std.specs.Prelude.{◌≡◌, ◌++◌, List, Option, OnOk, OnErr, IfOk};
-ghost use Rattle.std.specs.Io.KnownBytes.{Keeps};
+ghost use Rattle.std.specs.Prelude.{◌≡◌, ◌∷◌, [], List, OnOk, map};
+ghost use Rattle.mq_pubsub.specs.Printing.{acknowledged, identifier_at, last_acknowledged};
 
 use crate::choice::{Choice, Verdict};
 use crate::error::RunError;
@@ -25,25 +25,40 @@ pub struct Inbox {
     pub is_ended: bool,
 }
 
-// The identifier of the last packet of an output, if that is PUBACK or PUBREC (3.4, 3.5).
-fn answered_id(output: &[u8]) -> Option<PacketId> {
+// The identifier of a packet of 4 bytes, if that is PUBACK or PUBREC (3.4, 3.5).
+fn acknowledged(first: u8, size: u8, high: u8, low: u8) -> Option<PacketId>
+    ensures { result ≡ acknowledged (first ∷ size ∷ high ∷ low ∷ []) }
+{
+    if (first == 0x40 || first == 0x50) && size == 2 {
+        return PacketId::new(u16::from_be_bytes([high, low]));
+    }
+    None
+}
+
+// The identifier of the last packet of an output, if that is PUBACK or PUBREC.
+fn last_acknowledged(output: &[u8]) -> Option<PacketId>
+    ensures { result ≡ last_acknowledged output.now }
+{
     match output {
-        [.., 0x40 | 0x50, 2, high, low] => PacketId::new(u16::from_be_bytes([*high, *low])),
+        [.., first, size, high, low] => acknowledged(*first, *size, *high, *low),
         _ => None,
     }
 }
 
 // The identifier of the message that was delivered last. The client has just answered it.
-fn id_of(happening: &Happening, output: &[u8]) -> Option<PacketId> {
+fn id_of(happening: &Happening, output: &[u8]) -> Option<PacketId>
+    ensures { result ≡ identifier_at output.now happening.now }
+{
     match happening {
-        Happening::Handed(message) if message.qos != Qos::Q0 => answered_id(output),
+        Happening::Handed(message) if message.qos != Qos::Q0 => last_acknowledged(output),
         _ => None,
     }
 }
 
 // Reports the subscriptions that the server refused. Fails if it refused all (3.9.3).
 fn check_codes<P: Printer>(printer: &mut P, codes: &[SubAckCode]) -> Result<(), RunError>
-    ensures { P.shown printer.new ≡ P.shown printer.old }
+    ensures shown { P.shown printer.new ≡ P.shown printer.old }
+    ensures identifiers { P.identifiers printer.new ≡ P.identifiers printer.old }
 {
     let mut is_granted = false;
     for (index, code) in codes.iter().enumerate() {
@@ -59,7 +74,7 @@ fn check_codes<P: Printer>(printer: &mut P, codes: &[SubAckCode]) -> Result<(), 
 }
 
 impl Inbox {
-    ghost use Rattle.mq_pubsub.specs.Printing.{Shows};
+    ghost use Rattle.mq_pubsub.specs.Printing.{Shows, identifier_of};
     ghost use Rattle.mq_pubsub.specs.Subscribing.{Prints, connects, counts, delivers, granted, prints, prints_at, state_after};
 
     // A message was printed.
@@ -91,6 +106,8 @@ impl Inbox {
         ensures state { OnOk result (self.new ≡ delivers choice.now self.old message.now) }
         ensures shows { OnOk result (Shows (P.shown printer.old) (P.shown printer.new)
             (prints choice.now self.old message.now)) }
+        ensures identifiers { OnOk result (Shows (P.identifiers printer.old) (P.identifiers printer.new)
+            (map (λ _. id) (prints choice.now self.old message.now))) }
     {
         if self.is_ended {
             return Ok(());
@@ -119,6 +136,8 @@ impl Inbox {
             (self.new ≡ state_after choice.now ends_when_granted self.old happening.now) }
         ensures shows { OnOk result (Shows (P.shown printer.old) (P.shown printer.new)
             (prints_at choice.now self.old happening.now)) }
+        ensures identifiers { OnOk result (Shows (P.identifiers printer.old) (P.identifiers printer.new)
+            (map (λ _. id) (prints_at choice.now self.old happening.now))) }
     {
         match happening {
             Happening::Up { session_present } => {
@@ -151,7 +170,9 @@ impl Inbox {
     ) -> Result<(), RunError>
         ensures { OnOk result ((messages : List Message)
             × Prints choice.now ends_when_granted self.old happenings.now self.new messages
-            × Shows (P.shown printer.old) (P.shown printer.new) messages) }
+            × Shows (P.shown printer.old) (P.shown printer.new) messages
+            × Shows (P.identifiers printer.old) (P.identifiers printer.new)
+            (map (identifier_of output.now) messages)) }
     {
         for happening in happenings {
             let id = id_of(happening, output);

@@ -1,7 +1,10 @@
 //! Configurations from which clients are made.
 
-ghost use Rattle.std.specs.Prelude.{◌≡◌, ◌<◌, None, IfOk};
+ghost use Rattle.std.specs.Prelude.{◌≡◌, None, IfErr, IfOk};
+ghost use Rattle.mq_decode.specs.Limits.{strict};
 ghost use Rattle.mq_end.specs.End.{blank_end};
+ghost use Rattle.mq_flow.specs.declared.saved.Saved as value;
+ghost use Rattle.mq_pubsub.specs.Setups.{CanGoOn, GoesOn, config_of, greatest_length};
 
 use mq_decode::Limits;
 use mq_end::{ClientConfig, ClientEnd};
@@ -31,15 +34,15 @@ pub struct Setup {
 
 impl Setup {
     /// The bound on the remaining length of packets: that of the standard (2.2.3).
-    pub fn limits() -> Limits {
+    pub fn limits() -> Limits
+        ensures { result ≡ strict greatest_length }
+    {
         Limits::new(MOST_PACKET).unwrap()
     }
 
     // The configuration of a client.
     fn config(&self) -> Result<ClientConfig, AllocError>
-        ensures id { IfOk result (λ config. config.id ≡ self.now.id) }
-        ensures capacity { IfOk result (λ config. 0 < config.capacity) }
-        ensures window { IfOk result (λ config. config.window ≡ None) }
+        ensures { IfOk result (λ config. config ≡ config_of self.now) }
     {
         Ok(ClientConfig {
             id: self.id.clone()?,
@@ -54,7 +57,7 @@ impl Setup {
 
     /// A client without a session.
     pub fn client(&self, alloc: Global) -> Result<ClientEnd, AllocError>
-        ensures id { IfOk result (λ client. client.config.id ≡ self.now.id) }
+        ensures config { IfOk result (λ client. client.config ≡ config_of self.now) }
         ensures end { IfOk result (λ client. client.link.end ≡ blank_end None) }
     {
         Ok(ClientEnd::new(alloc, self.config()?))
@@ -62,7 +65,9 @@ impl Setup {
 
     /// A client with the session that `bytes` are the saved form of (4.1).
     pub fn saved_client(&self, alloc: Global, bytes: &[u8]) -> Result<ClientEnd, LoadError>
-        ensures id { IfOk result (λ client. client.config.id ≡ self.now.id) }
+        ensures ok { IfOk result (GoesOn self.now bytes.now) }
+        ensures loads { (saved : value.Saved) → CanGoOn self.now bytes.now saved
+            → IfErr result (λ why. why ≡ LoadError.Memory) }
     {
         let saved = Saved::load(alloc, bytes)?;
         match self.config() {
