@@ -1,5 +1,5 @@
 #!/usr/bin/env python3
-"""Kills `mqtt broker --data` at random moments, fills its disk, and damages its journal.
+"""Kills `mqtt broker --data` at random moments, fills its disk, and damages its files.
 
 .ci/program runs these tests. Alone: .ci/durable.py PROGRAM [KILLS] [NAME..], where KILLS is the
 number of kills and each NAME is one test. SEED is the number from which the times of kills follow.
@@ -28,6 +28,8 @@ except ImportError:
 MOSQUITTO = shutil.which("mosquitto_pub")
 SEED = int(os.environ.get("SEED", str(os.getpid())))
 KILLS = 8
+# The size of a journal without --journal-size.
+SIZE = 64 << 20
 LOST = (OSError, AssertionError)
 
 
@@ -282,9 +284,11 @@ def kill_at_start(program, folder, words, seconds):
 
 def kills(program):
     """Acknowledged messages arrive although the broker is killed, those of QoS 2 once."""
-    for keep, count in (("system", KILLS), ("disk", max(1, KILLS // 4))):
+    few = max(1, KILLS // 4)
+    for keep, size, count in (("system", SIZE, KILLS), ("disk", SIZE, few), ("system", 3_000, KILLS), ("system", 0, KILLS), ("disk", 0, few)):
+        words = ["--capacity", "65535", "--keep", keep, "--journal-size", str(size)]
         with tempfile.TemporaryDirectory() as room:
-            kill_often(program, f"{room}/data", ["--capacity", "65535", "--keep", keep], count)
+            kill_often(program, f"{room}/data", words, count)
 
 
 def kill_often(program, folder, words, count):
@@ -307,7 +311,7 @@ def kill_often(program, folder, words, count):
         drain(broker, subscriber, sources)
         for it in watched:
             it.check(broker)
-    check(subscriber, sources, f"{count} kills, {words[-1]}, SEED={SEED}")
+    check(subscriber, sources, f"{count} kills, {' '.join(words[2:])}, SEED={SEED}")
     assert os.stat(folder).st_mode & 0o777 == 0o700
     for name in os.listdir(folder):
         assert os.stat(f"{folder}/{name}").st_mode & 0o777 == 0o600, name
@@ -381,50 +385,124 @@ def run_broker(program, *words):
 
 
 def refusals(program):
-    """Folders that can't be used, and options that are not valid."""
+    """Folders that can't be used, and files that are missing."""
     with tempfile.TemporaryDirectory() as folder:
         with Kept(program, folder):
             assert run_broker(program, "--data", folder) == (1, f"mqtt: the folder '{folder}': in use\n")
-        status, reason = run_broker(program, "--data", folder, "--capacity", "7")
-        assert status == 1 and f"'{folder}'" in reason and "other limits" in reason, reason
-        status, reason = run_broker(program, "--data", f"{folder}/no/no")
-        assert (status, reason) == (1, f"mqtt: the folder '{folder}/no/no': the folder cannot be opened\n")
-        os.rename(f"{folder}/journal.1", f"{folder}/journal.2")
-        shutil.copy(f"{folder}/journal.2", f"{folder}/journal.3")
-        shutil.copy(f"{folder}/journal.2", f"{folder}/journal.1")
-        os.remove(f"{folder}/journal.2")
-        status, reason = run_broker(program, "--data", folder)
-        assert (status, reason) == (1, f"mqtt: the folder '{folder}': a file of the journal is missing\n")
+        is_refused(program, f"{folder}/no/no", "the folder cannot be opened")
         for name in ("missing", ""):
             ran = subprocess.run([program, "journal", f"{folder}/{name}"], capture_output=True, timeout=LIMIT, check=False)
             assert (ran.returncode, ran.stdout) == (1, b"") and b"cannot be read" in ran.stderr, ran
-        ran = subprocess.run([program, "journal", sys.argv[0]], capture_output=True, timeout=LIMIT, check=False)
-        assert (ran.returncode, ran.stdout) == (1, b"") and b"is not the journal of a broker" in ran.stderr, ran
+        for name in (f"{folder}/snapshot", sys.argv[0]):
+            ran = subprocess.run([program, "journal", name], capture_output=True, timeout=LIMIT, check=False)
+            assert (ran.returncode, ran.stdout) == (1, b"") and b"is not the journal of a broker" in ran.stderr, ran
+        with copied(folder) as other:
+            os.remove(f"{other}/journal.1")
+            is_refused(program, other, "the journal that the file 'snapshot' names is missing")
+        os.remove(f"{folder}/snapshot")
+        is_refused(program, folder, "the file 'snapshot' is missing: restore it, or use an empty folder")
+        with open(f"{folder}/configuration", "wb") as file:
+            file.write(bytes(32))
+        is_refused(program, folder, "it has a journal of an earlier version: use that version, or an empty folder")
+
+
+def is_refused(program, folder, reason, *words):
+    """A start is refused for this reason, and changes nothing in the folder."""
+    before = files_of(folder)
+    assert run_broker(program, "--data", folder, *words) == (1, f"mqtt: the folder '{folder}': {reason}\n"), reason
+    assert files_of(folder) == before, f"{reason}: the folder was changed"
+
+
+@contextlib.contextmanager
+def copied(folder):
+    with tempfile.TemporaryDirectory() as room:
+        yield shutil.copytree(folder, room, dirs_exist_ok=True)
+
+
+def files_of(folder):
+    """The files of a folder with their bytes."""
+    found = {}
+    for name in os.listdir(folder) if os.path.isdir(folder) else ():
+        with open(f"{folder}/{name}", "rb") as file:
+            found[name] = file.read()
+    return found
+
+
+def changes(program):
+    """A start may have other limits and passwords, unless they don't allow the broker."""
+    with tempfile.TemporaryDirectory() as room:
+        folder, passwords = f"{room}/data", f"{room}/passwords"
+        with open(passwords, "w", encoding="utf-8") as file:
+            file.write("home:secret\np:secret\n")
+        with Kept(program, folder) as broker:
+            fill_queue(broker, 0, 10)
+        is_refused(program, folder, "a session stores too many messages: use a greater capacity", "--capacity", "9")
+        with Kept(program, folder, "--capacity", "10", "--passwords", passwords) as broker:
+            with Client(broker) as home:
+                home.send(connect("home", clean=False))
+                assert home.expect(0x20) == b"\0\5", "anyone may connect"
+            broker.kill()
+        with Kept(program, folder, "--capacity", "11") as broker:
+            with Client(broker, "q") as client:
+                client.send(publish("t/long", 200 * b"x", 1, 1))
+                client.expect(0x40)
+        is_refused(program, folder, "a stored message is too large: use a greater maximum length of a packet", "--max-packet", "100")
+        with Kept(program, folder) as broker:
+            assert messages_of_home(broker) == [b"-%d" % nth for nth in range(10)] + [200 * b"x"]
+
+
+def restarts(program):
+    """Kills and starts leave two files in the folder."""
+    times = random.Random(SEED)
+    with tempfile.TemporaryDirectory() as folder:
+        for nth in range(30):
+            words = ["--journal-size", str((0, 3_000, SIZE)[nth % 3])]
+            kill_at_start(program, folder, words, times.uniform(0, 0.03))
+            with Kept(program, folder, *words) as broker:
+                check_files(folder)
+                fill_queue(broker, nth, 1)
+                # A client is connected, and has sent a part of a packet.
+                with Client(broker, "q") as client:
+                    client.send(publish("t/q", b"q", 1, 1)[:5])
+                    client.wait_until_arrived()
+                    broker.kill()
+        with Kept(program, folder) as broker:
+            check_files(folder)
+            assert messages_of_home(broker) == [b"-%d" % nth for nth in range(30)]
+
+
+def check_files(folder):
+    names = sorted(os.listdir(folder))
+    assert len(names) == 2 and re.fullmatch(r"journal\.\d+", names[0]) and names[1] == "snapshot", names
 
 
 def full(program):
     """On a full disk the broker ends, and every message that it acknowledged is there later."""
+    small = ["--journal-size", "3000"]
     with tempfile.TemporaryDirectory() as folder:
         fill(program, f"{folder}/data", 100_000)
+        fill(program, f"{folder}/more", 100_000, *small)
         mount = ["mount", "-t", "tmpfs", "-o", "size=200k", "tmpfs", folder]
         if subprocess.run(mount, capture_output=True, check=False).returncode:
             print("durable: full: no tmpfs can be mounted here, so only the size of files was limited")
             return
         try:
             fill(program, f"{folder}/data", None)
+            shutil.rmtree(f"{folder}/data")
+            fill(program, f"{folder}/data", None, *small)
         finally:
             subprocess.run(["umount", folder], check=True)
 
 
-def fill(program, folder, size):
-    with Kept(program, folder, size=size) as broker:
+def fill(program, folder, size, *words):
+    with Kept(program, folder, *words, size=size) as broker:
         taken = publish_until_lost(broker)
         status = broker.process.wait(LIMIT)
         reason = broker.process.stderr.read().decode()
     assert 20 < taken < 300, taken
     wanted = f"the journal in '{folder}' cannot be written: the disk is full or failed."
     assert status == 1 and wanted in reason and "Free space" in reason, (status, reason)
-    if size is None:
+    if size is None and not words:
         status, reason = run_broker(program, "--data", folder)
         assert status == 1 and f"'{folder}'" in reason and "cannot be written" in reason, reason
     with tempfile.TemporaryDirectory() as other:
@@ -463,13 +541,13 @@ def memory(program):
 
 
 def damage(program):
-    """A damaged file of the journal is refused, or the last one is read up to the damage."""
+    """A damaged file is refused by name, or the journal is read up to the damage."""
     with tempfile.TemporaryDirectory() as folder:
         for first in (0, 3):
             with Kept(program, folder) as broker:
                 fill_queue(broker, first, 3)
                 broker.kill()
-        for name, least in (("configuration", 6), ("journal.1", 6), ("journal.2", 3)):
+        for name, least in (("snapshot", 6), ("journal.2", 3)):
             with open(f"{folder}/{name}", "rb") as file:
                 whole = file.read()
             counts = [start_with(program, folder, name, *it) for it in damaged(whole)]
@@ -499,12 +577,12 @@ def start_with(program, folder, name, where, journal):
         shutil.copytree(folder, room, dirs_exist_ok=True)
         with open(f"{room}/{name}", "wb") as file:
             file.write(journal)
-        if name != "configuration":
+        if name != "snapshot":
             list_damaged(program, f"{room}/{name}", where)
         try:
             broker = Kept(program, room)
         except AssertionError as fault:
-            reason = r"mqtt: the folder '.*': (a file|an entry|the broker|the journal)"
+            reason = r"mqtt: the folder '.*': (the file 'snapshot'|an entry|the broker|the journal) "
             assert re.search(reason, str(fault)), (name, where, fault)
             with open(f"{room}/{name}", "rb") as file:
                 assert file.read() == journal, f"{name} {where}: it was changed"
@@ -540,7 +618,7 @@ def messages_of_home(broker):
             found.append(message_of(first, body)[1])
 
 
-TESTS = [kills, queued, refusals, full, memory, damage]
+TESTS = [kills, queued, refusals, changes, restarts, full, memory, damage]
 
 
 def faults_of(program, names=()):

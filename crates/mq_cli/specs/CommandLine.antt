@@ -162,10 +162,15 @@ IsKeep command choice =
     GivesWord command (codes "broker") (codes "KEEP") (keep_word choice)
     ⊎ (HasWord command (codes "broker") (codes "KEEP") None × (choice ≡ failures.Disk))
 
--- The folder of the journal. Without a folder the failure that it survives must not be given.
+-- The folder of the journal. Without a folder the failure that it survives and the size of the
+-- journal must not be given.
 abbrev pub IsData : Option (Text × List Row) → Option DataFolder → Type 0
-IsData command None = HasWord command (codes "broker") (codes "DATA") None × HasWord command (codes "broker") (codes "KEEP") None
-IsData command (Some folder) = GivesWord command (codes "broker") (codes "DATA") folder.path.now × IsKeep command folder.keep
+IsData command None =
+    HasWord command (codes "broker") (codes "DATA") None × HasWord command (codes "broker") (codes "KEEP") None
+    × HasWord command (codes "broker") (codes "JOURNAL_SIZE") None
+IsData command (Some folder) =
+    GivesWord command (codes "broker") (codes "DATA") folder.path.now × IsKeep command folder.keep
+    × IsLimit command (codes "JOURNAL_SIZE") 67108864 folder.journal_size
 
 -- the words of `broker`
 pub record IsBroker (command : Option (Text × List Row)) (broker : Broker) : Type 0 where

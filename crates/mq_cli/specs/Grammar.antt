@@ -134,9 +134,13 @@ with_logs app =
 abbrev pub with_data : App → App
 with_data app = with_rule (with_rule app (file_rule (codes "DATA") (codes "data"))) (file_rule (codes "KEEP") (codes "keep"))
 
+-- the size of the journal
+abbrev pub with_journal : App → App
+with_journal app = with_rule app (limit_rule (codes "JOURNAL_SIZE") (codes "journal-size") (Signed (pos 0) (pos 4294967295)))
+
 -- `broker`, whose options can all be left out
 abbrev pub broker_words : App
-broker_words = with_logs (with_data (with_extras (with_patience (with_sessions (with_limits (with_tables (with_rule (new_app (codes "broker")) (file_rule (codes "LISTEN") (codes "listen")))))))))
+broker_words = with_logs (with_journal (with_data (with_extras (with_patience (with_sessions (with_limits (with_tables (with_rule (new_app (codes "broker")) (file_rule (codes "LISTEN") (codes "listen"))))))))))
 
 -- `broker`, `journal FILE`, `password NAME`, `loopback FILE`
 abbrev pub served_words : App

@@ -1,10 +1,10 @@
 //! The command `broker`: its definition and its arguments.
 
-ghost use Rattle.std.specs.Prelude.{◌≡◌, false, codes, IfOk, IfSome};
+ghost use Rattle.std.specs.Prelude.{◌≡◌, false, codes, None, IfOk, IfSome};
 ghost use Rattle.clap.specs.Words.{app_of, rule_of, subcommand_rows_of};
 ghost use Rattle.clap.specs.declared.builder.command.Command.TheViews.{out-Command};
-ghost use Rattle.mq_cli.specs.CommandLine.{IsBroker, IsData, IsExpiry, IsKeep, IsLimit, IsOnFull, IsPatience, IsTime, full_word, keep_word};
-ghost use Rattle.mq_cli.specs.Grammar.{broker_words, limit_rule, with_data, with_extras, with_limits, with_logs, with_patience, with_sessions, with_tables};
+ghost use Rattle.mq_cli.specs.CommandLine.{HasWord, IsBroker, IsData, IsExpiry, IsKeep, IsLimit, IsOnFull, IsPatience, IsTime, full_word, keep_word};
+ghost use Rattle.mq_cli.specs.Grammar.{broker_words, limit_rule, with_data, with_extras, with_journal, with_limits, with_logs, with_patience, with_sessions, with_tables};
 
 use crate::grammar::{Texts, file_option, flag, new_command, with_arg};
 use crate::words::{flag_of, given_of, number_of};
@@ -40,6 +40,8 @@ pub struct DataFolder<'a> {
     pub path: &'a str,
     /// The failure that the journal survives.
     pub keep: Durability,
+    /// The number of bytes from which on the broker continues in the next journal.
+    pub journal_size: u32,
 }
 
 /// A broker that runs until it is stopped.
@@ -207,6 +209,19 @@ fn with_data<'a>(alloc: Global, command: Command<'a>) -> Result<Command<'a>, All
     with_arg(command, file_option(alloc, "KEEP", "keep", help))
 }
 
+// The command with the option of the journal's size.
+fn with_journal<'a>(alloc: Global, command: Command<'a>) -> Result<Command<'a>, AllocError>
+    ensures words { IfOk result (λ new. app_of new ≡ with_journal (app_of command.entry)) }
+    ensures local { IfOk result (λ new. (out-Command new).has_globals ≡ (out-Command command.entry).has_globals) }
+{
+    let help = "The bytes of the journal from which on a snapshot replaces it [default: 67108864]";
+    let kind = value_parser!(u32);
+    with_arg(
+        command,
+        limit(alloc, "JOURNAL_SIZE", "journal-size", help, kind),
+    )
+}
+
 // The command with the options of the log.
 fn with_logs<'a>(alloc: Global, command: Command<'a>) -> Result<Command<'a>, AllocError>
     ensures words { IfOk result (λ new. app_of new ≡ with_logs (app_of command.entry)) }
@@ -231,11 +246,12 @@ fn with_times<'a>(alloc: Global, command: Command<'a>) -> Result<Command<'a>, Al
 
 // The command with the options of the passwords, of the metrics and of the journal.
 fn with_services<'a>(alloc: Global, command: Command<'a>) -> Result<Command<'a>, AllocError>
-    ensures words { IfOk result (λ new. app_of new ≡ with_data (with_extras (app_of command.entry))) }
+    ensures words { IfOk result (λ new. app_of new ≡ with_journal (with_data (with_extras (app_of command.entry)))) }
     ensures local { IfOk result (λ new. (out-Command new).has_globals ≡ (out-Command command.entry).has_globals) }
 {
     let command = with_extras(alloc, command)?;
-    with_data(alloc, command)
+    let command = with_data(alloc, command)?;
+    with_journal(alloc, command)
 }
 
 /// `broker [--listen ADDR:PORT] ..`.
@@ -355,19 +371,39 @@ fn keep_of(matches: &ArgMatches<'_>) -> Option<Durability>
     }
 }
 
+// The folder of a path, with the options of its journal.
+fn folder_of<'a>(matches: &ArgMatches<'a>, path: &'a str) -> Option<DataFolder<'a>>
+    ensures path { IfSome result (λ folder. folder.path.now ≡ path.now) }
+    ensures keep { IfSome result (λ folder. IsKeep (subcommand_rows_of matches.now) folder.keep) }
+    ensures size { IfSome result (λ folder.
+        IsLimit (subcommand_rows_of matches.now) (codes "JOURNAL_SIZE") 67108864 folder.journal_size) }
+{
+    let keep = keep_of(matches)?;
+    let journal_size = limit_of_32_bits(matches, "JOURNAL_SIZE", 67_108_864)?;
+    Some(DataFolder {
+        path,
+        keep,
+        journal_size,
+    })
+}
+
+// Whether an argument was given. `None` if it can't be found out.
+fn is_given(matches: &ArgMatches<'_>, word: &str) -> Option<bool>
+    ensures { IfSome result (λ is. is ≡ false → HasWord (subcommand_rows_of matches.now) (codes "broker") word.now None) }
+{
+    Some(given_of(matches, "broker", word)?.is_some())
+}
+
 fn data_of<'a>(matches: &ArgMatches<'a>) -> Option<Option<DataFolder<'a>>>
     ensures { IfSome result (IsData (subcommand_rows_of matches.now)) }
 {
-    match given_of(matches, "broker", "DATA")? {
-        Some(path) => {
-            let keep = keep_of(matches)?;
-            Some(Some(DataFolder { path, keep }))
-        }
-        None => match given_of(matches, "broker", "KEEP")? {
-            None => Some(None),
-            Some(_) => None,
-        },
+    if let Some(path) = given_of(matches, "broker", "DATA")? {
+        return Some(Some(folder_of(matches, path)?));
     }
+    if is_given(matches, "KEEP")? || is_given(matches, "JOURNAL_SIZE")? {
+        return None;
+    }
+    Some(None)
 }
 
 /// The error for arguments of `broker` that the parser accepts although they are not valid.
@@ -382,7 +418,7 @@ pub(crate) fn broker_complaint(matches: &ArgMatches<'_>) -> &'static str {
         return "--keep wants system or disk";
     }
     match data_of(matches) {
-        None => "broker wants --data DIR with --keep",
+        None => "broker wants --data DIR with --keep or --journal-size",
         Some(_) => "--when-full wants drop or close",
     }
 }

@@ -1,2 +1,4 @@
 pub mod Contents
 pub mod Replacing
+pub mod Switching
+pub mod Times

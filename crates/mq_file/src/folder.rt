@@ -3,10 +3,10 @@
 ghost use Rattle.std.specs.Prelude.{◌≡◌, ◌≢◌, ◌⊎◌, Ok, Err, IfErr, IfOk};
 
 use crate::error::{FolderError, check_lock, is_new, opened, read, written};
-use crate::named_files::{NamedFiles, replace};
+use crate::named_files::{NamedFiles, switch};
 use std::alloc::Global;
 use std::fs::{DirBuilder, File, OpenOptions};
-use std::io::{Read, Write};
+use std::io::{ErrorKind, Read, Write};
 use std::os::unix::fs::{DirBuilderExt, OpenOptionsExt};
 use std::rt::Files;
 use std::{fs, io};
@@ -48,19 +48,29 @@ impl Folder {
         written(self.folder.sync_all())
     }
 
-    /// Replaces a file of the folder by one with these bytes, which only its user may read, as
-    /// [`replace`] does. Returns `Unwritten` if that fails.
-    pub fn replace_file<R: Files<File = File>>(
+    /// Replaces a file of the folder by one with these bytes, and continues in another journal, as
+    /// [`switch`] does. Only the user may read the new files. Returns `Unwritten` if that fails.
+    pub fn switch<R: Files<File = File>>(
         &self,
         rt: &R,
         next: &str,
         path: &str,
         bytes: &[u8],
+        first: &str,
+        second: &str,
     ) -> Result<(), FolderError>
         ensures { IfErr result (λ why. why ≡ FolderError.Unwritten) }
     {
         let mut files = FolderFiles { rt, folder: self };
-        replace(&mut files, next, path, bytes)
+        switch(&mut files, next, path, bytes, first, second)
+    }
+
+    /// Removes a file, if it exists. Returns `Unwritten` if that fails.
+    pub fn remove<R: Files<File = File>>(&self, rt: &R, path: &str) -> Result<(), FolderError>
+        ensures { IfErr result (λ why. why ≡ FolderError.Unwritten) }
+    {
+        let mut files = FolderFiles { rt, folder: self };
+        written(files.remove(path))
     }
 }
 
@@ -85,6 +95,13 @@ impl<R: Files<File = File>> NamedFiles for FolderFiles<'_, R> {
 
     fn rename(&mut self, from: &str, to: &str) -> io::Result<()> {
         fs::rename(self.rt, from, to)
+    }
+
+    fn remove(&mut self, name: &str) -> io::Result<()> {
+        match fs::remove_file(self.rt, name) {
+            Err(error) if error.kind() == ErrorKind::NotFound => Ok(()),
+            removed => removed,
+        }
     }
 
     fn sync(&mut self) -> io::Result<()> {

@@ -9,7 +9,7 @@ use mq_log::{Disk, DiskError};
 use std::alloc::Global;
 use std::fs::{File, OpenOptions};
 use std::io;
-use std::os::unix::fs::{FileExt, OpenOptionsExt};
+use std::os::unix::fs::FileExt;
 use std::rt::Files;
 
 /// The failure that a commit survives.
@@ -37,25 +37,27 @@ const FAILED: u64 = 3;
 pub struct JournalFile {
     file: File,
     keep: Keep,
+    /// The end of the furthest write.
+    pub size: u64,
     history: Record,
 }
 
 impl JournalFile {
     ghost use Rattle.mq_file.specs.Files.{calls_of};
 
-    /// Creates a file, which only its user may read.
-    pub fn create<R: Files<File = File>>(rt: &R, path: &str, keep: Keep) -> io::Result<JournalFile>
+    /// Opens a file that exists and is durable, and empties it.
+    pub fn empty<R: Files<File = File>>(rt: &R, path: &str, keep: Keep) -> io::Result<JournalFile>
         ensures { IfOk result (λ file. calls_of file ≡ []) }
     {
         let file = OpenOptions::new()
             .write(true)
-            .create_new(true)
-            .mode(0o600)
+            .truncate(true)
             .open(rt, path)?;
         let history = Record::new();
         Ok(JournalFile {
             file,
             keep,
+            size: 0,
             history,
         })
     }
@@ -87,6 +89,8 @@ impl Disk for JournalFile {
         match self.file.write_all_at(bytes, at64) {
             Ok(()) => {
                 self.history.note(&[WROTE, at64], bytes);
+                let end = at64.saturating_add(bytes.len() as u64);
+                self.size = self.size.max(end);
                 Ok(())
             }
             Err(_) => {

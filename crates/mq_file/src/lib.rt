@@ -15,4 +15,4 @@ mod record;
 pub use crate::error::FolderError;
 pub use crate::folder::{Folder, has_file, read_file};
 pub use crate::journal_file::{JournalFile, Keep};
-pub use crate::named_files::{NamedFiles, replace};
+pub use crate::named_files::{NamedFiles, replace, switch};

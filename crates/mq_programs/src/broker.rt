@@ -224,7 +224,7 @@ fn ready_of<'a, R: Clock + Files<File = File>, E: Write>(
 }
 
 // Runs a broker with a log.
-fn run_logged<'a, R: Net + Clock, W: Write, L: Write + Drop>(
+fn run_logged<'a, R: Net + Clock + Files<File = File>, W: Write, L: Write + Drop>(
     rt: &R,
     alloc: Global,
     broker: Ready,

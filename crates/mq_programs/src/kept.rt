@@ -11,6 +11,7 @@ ghost use Rattle.mq_route.specs.Hub.{new_hub};
 use mq_broker::{BrokerEnd, BrokerOptions, Log, OpenError, RecoveredBroker, run_broker};
 use mq_cli::{DataFolder, Durability};
 use mq_file::Keep;
+use mq_store::StoreOptions;
 use std::alloc::Global;
 use std::fs::File;
 use std::io;
@@ -30,7 +31,7 @@ pub(crate) enum Ready {
 
 impl Ready {
     /// Runs the broker until it ends.
-    pub(crate) fn run<R: Net + Clock, W: Write, L: Write + Drop>(
+    pub(crate) fn run<R: Net + Clock + Files<File = File>, W: Write, L: Write + Drop>(
         self,
         rt: &R,
         alloc: Global,
@@ -52,6 +53,17 @@ fn keep_of(keep: Durability) -> Keep
     match keep {
         Durability::System => Keep::System,
         Durability::Disk => Keep::Disk,
+    }
+}
+
+// The options of the folder.
+fn store_options(data: DataFolder<'_>) -> StoreOptions
+    ensures keep { result.keep ≡ keep_of data.keep }
+    ensures size { result.journal_size ≡ data.journal_size }
+{
+    StoreOptions {
+        keep: keep_of(data.keep),
+        journal_size: u64::from(data.journal_size),
     }
 }
 
@@ -79,7 +91,7 @@ pub(crate) fn recover<R: Clock + Files<File = File>, E: Write>(
     ensures refused { IfErr result (λ error. error ≡ PacketLimit → ¬ (IsPacketLimit options.max_packet)) }
 {
     let began = Instant::now(rt);
-    let broker = RecoveredBroker::open(rt, alloc, options, data.path, keep_of(data.keep))?;
+    let broker = RecoveredBroker::open(rt, alloc, options, data.path, store_options(data))?;
     let (events, sessions) = (broker.events(), broker.sessions());
     let time = milliseconds_since(rt, began);
     let _ = writeln!(

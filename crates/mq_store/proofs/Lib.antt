@@ -1,5 +1,6 @@
 mod Appends
 mod Configurations
 mod Lasting
-mod Owners
+mod Opens
 mod Restores
+mod Splits

@@ -1,25 +1,21 @@
--- The fields of a configuration that decide the steps of a broker, as bytes.
+-- A configuration as bytes.
 use Rattle.std.specs.Prelude.{ℕ, Bool, true, false, List, [], ◌∷◌, ◌++◌, length, Option, None, Some}
-use Rattle.std.specs.Int.{w64, to_be_bytes}
 use Rattle.mq_decode.specs.Limits.{Bounds}
 use Rattle.mq_route.specs.declared.config.HashedUser.{HashedUser}
 use Rattle.mq_route.specs.declared.config.HubConfig.{HubConfig}
 use Rattle.mq_route.specs.declared.config.User.{User}
 use Rattle.mq_route.specs.declared.config.WhenFull.{WhenFull}
 use Rattle.mq_route.specs.declared.config.WhenFull.TheVariants.{ClosePublisher, DropCopy}
-
--- a number, in eight bytes
-unfoldable pub number_bytes : ℕ → List ℕ
-number_bytes number = to_be_bytes w64 number
+use Rattle.mq_route.specs.Snapshot.{eight}
 
 -- a number that may be missing
 abbrev pub option_bytes : Option ℕ → List ℕ
-option_bytes None = number_bytes 0
-option_bytes (Some number) = number_bytes 1 ++ number_bytes number
+option_bytes None = eight 0
+option_bytes (Some number) = eight 1 ++ eight number
 
 -- bytes behind their number
 abbrev pub text_bytes : List ℕ → List ℕ
-text_bytes bytes = number_bytes (length bytes) ++ bytes
+text_bytes bytes = eight (length bytes) ++ bytes
 
 abbrev pub user_bytes : User → List ℕ
 user_bytes user = text_bytes user.name ++ text_bytes user.password
@@ -37,13 +33,13 @@ hashed_users_bytes (user ∷ users) = hashed_bytes user ++ hashed_users_bytes us
 
 -- the users, if they are restricted
 abbrev pub user_table : Option (List User) → List ℕ
-user_table None = number_bytes 0
-user_table (Some users) = number_bytes 1 ++ number_bytes (length users) ++ users_bytes users
+user_table None = eight 0
+user_table (Some users) = eight 1 ++ eight (length users) ++ users_bytes users
 
 abbrev pub hashed_table : Option (List HashedUser) → List ℕ
-hashed_table None = number_bytes 0
+hashed_table None = eight 0
 hashed_table (Some users) =
-    number_bytes 1 ++ number_bytes (length users) ++ hashed_users_bytes users
+    eight 1 ++ eight (length users) ++ hashed_users_bytes users
 
 abbrev pub bool_number : Bool → ℕ
 bool_number true = 1
@@ -55,21 +51,21 @@ when_full_number DropCopy = 1
 
 -- the limits of packets
 abbrev pub packet_bytes : Bounds → List ℕ
-packet_bytes limits = number_bytes limits.most ++ number_bytes (bool_number limits.lenient)
+packet_bytes limits = eight limits.most ++ eight (bool_number limits.lenient)
 
 -- the limits of packets, sessions and connections
 abbrev pub limit_bytes : HubConfig → List ℕ
 limit_bytes config =
     packet_bytes config.limits
-    ++ number_bytes config.capacity
+    ++ eight config.capacity
     ++ option_bytes config.window
-    ++ number_bytes config.max_conns
-    ++ number_bytes config.max_sessions
+    ++ eight config.max_conns
+    ++ eight config.max_sessions
 
 -- the limits of messages, and the times
 abbrev pub bound_bytes : HubConfig → List ℕ
 bound_bytes config =
-    number_bytes (when_full_number config.when_full)
+    eight (when_full_number config.when_full)
     ++ option_bytes config.connect_within
     ++ option_bytes config.session_expiry
     ++ option_bytes config.most_stored

@@ -1,19 +1,21 @@
--- A broker that is restored from the files of its journal.
-use Rattle.std.specs.Prelude.{◌≡◌, ◌≢◌, Bool, true, false, ◌≤◌, ◌-◌, ◌⊎◌, ℕ, List, [], drop, length, take}
-use Rattle.std.specs.List.{AllByRecursion, flat_map}
+-- A broker that is restored from a snapshot and the journal that follows it.
+use Rattle.std.specs.Prelude.{◌≡◌, ◌≢◌, ◌⊎◌, Bool, true, false, ℕ, List, [], length}
 use Rattle.mq_log.specs.Blocks.{gate, rest}
 use Rattle.mq_log.specs.declared.reader.Tail.{Tail}
 use Rattle.mq_log.specs.declared.reader.Tail.TheVariants.{Closed, Torn, CutShort, Damaged}
 use Rattle.mq_durable.specs.declared.condition.Condition.TheVariants.{Sound}
 use Rattle.mq_durable.specs.Recorded.{IsReadable, events_of}
-use Rattle.mq_durable.specs.Recovering.{AreEnds, latest}
+use Rattle.mq_durable.specs.Recovering.{HasEnded}
 use Rattle.mq_durable.specs.Replaying.{Replays}
 use Rattle.mq_durable.specs.State.{DurableState}
 use Rattle.mq_file.specs.declared.journal_file.JournalFile.{JournalFile}
 use Rattle.mq_file.specs.Files.{calls_of}
 use Rattle.mq_file.specs.History.{seen_after}
-use Rattle.mq_route.specs.declared.event.HubEvent.{HubEvent}
-use Rattle.mq_route.specs.Hub.{HubState}
+use Rattle.mq_route.specs.Begun.{MayBegin}
+use Rattle.mq_route.specs.declared.config.HubConfig.{HubConfig}
+use Rattle.mq_route.specs.Hub.{HubState, new_hub}
+use Rattle.mq_route.specs.Snapshot.{IsKeptWhole, IsStorable, restored, snapshot}
+use Rattle.mq_store.specs.SnapshotFile.{snapshot_file}
 
 -- A crash may leave this file of a journal: each entry is the encoding of events, and no open gate
 -- is behind the entries.
@@ -27,50 +29,52 @@ may_end Torn = true
 may_end CutShort = false
 may_end Damaged = false
 
--- the events of files, in order
-abbrev pub events_of_all : List (List ℕ) → List HubEvent
-events_of_all files = flat_map events_of files
+-- Exactly the events of a journal came to a broker, and then its connections ended.
+pub record EndsAfter (begun : HubState) (journal : List ℕ) (new : HubState) : Type 0 where
+  pub undamaged : MayBeLeft journal
+  pub replayed : HubState
+  pub replays : Replays begun (events_of journal) replayed
+  pub ended : HasEnded replayed new
+  pub none : new.connections ≡ []
 
--- the number of bytes of a file up to the end of its last entry
-abbrev pub IsEndOf : ℕ → List ℕ → Type 0
-IsEndOf end file = (end ≤ length file) × (drop end file ≡ rest file)
+-- The same for the broker of a snapshot, with the number of the events.
+pub record IsEnded (file journal : List ℕ) (new : HubState) (events : ℕ) : Type 0 where
+  pub nth : ℕ
+  pub begun : HubState
+  pub saved : file ≡ snapshot_file nth begun
+  pub whole : IsKeptWhole begun
+  pub events_are : events ≡ length (events_of journal)
+  pub ends_after : EndsAfter begun journal new
 
--- The ends that a folder has are those of all its files, or of all but the last. Each has eight
--- bytes.
-abbrev pub IsNoted : (known ends : List ℕ) → Type 0
-IsNoted known ends = (known ≡ ends) ⊎ (known ≡ take (length ends - 8) ends)
+-- A broker that was loaded under a configuration from the snapshot of another one. It is what a
+-- snapshot keeps of that one.
+pub record IsLoaded (config : HubConfig) (old new : HubState) : Type 0 where
+  pub config_is : new.config ≡ config
+  pub same : snapshot new ≡ snapshot old
+  pub whole : IsKeptWhole new
+  pub kept : IsStorable old → IsStorable new → new ≡ restored config old
 
--- The file `configuration` of a folder has the digest of the configuration, in 32 bytes, and then
--- the ends.
-abbrev pub digest_in : List ℕ → List ℕ
-digest_in known = take 32 known
+-- A broker that was restored under a configuration, and the number of the events.
+pub record IsRestored (config : HubConfig) (file journal : List ℕ) (new : HubState) (events : ℕ) : Type 0 where
+  pub ended : HubState
+  pub is_ended : IsEnded file journal ended events
+  pub is_loaded : IsLoaded config ended new
+  pub none : new.connections ≡ []
 
-abbrev pub ends_in : List ℕ → List ℕ
-ends_in known = drop 32 known
+-- The broker of a folder under a configuration, with the number of its recovered events: a new one,
+-- or one that was restored.
+abbrev pub IsFound : HubConfig → HubState → ℕ → Type 0
+IsFound config hub events =
+    ((hub ≡ new_hub config) × (events ≡ 0))
+    ⊎ ((file : List ℕ) × ((journal : List ℕ) × IsRestored config file journal hub events))
 
--- Exactly the events of some files came to a broker, and this is their number. A crash may leave
--- each of the files.
-pub record IsRestored (old new : HubState) (count : ℕ) : Type 0 where
-  pub files : List (List ℕ)
-  pub undamaged : AllByRecursion MayBeLeft files
-  pub replays : Replays old (events_of_all files) new
-  pub clock : new.clock ≡ latest old.clock (events_of_all files)
-  pub count_is : count ≡ length (events_of_all files)
-
--- The connections of a restored broker have ended, and the ends are pending. The new file has no
--- event yet.
-pub record IsResumed {D : Type 0} (seen : D → List ℕ) (restored : HubState) (new : DurableState D) : Type 0 where
-  pub base : new.base ≡ restored
-  pub recorded : events_of (seen new.disk) ≡ []
-  pub are_ends : AreEnds new.pending
-  pub ended : Replays restored new.pending new.hub
-  pub none : new.hub.connections ≡ []
+-- A broker that was opened, with the number of its recovered events and its time. A run may begin
+-- with it. Its journal has no event yet.
+pub record IsOpened (config : HubConfig) (new : DurableState JournalFile) (events clock : ℕ) : Type 0 where
+  pub found : IsFound config new.hub events
+  pub may_begin : MayBegin new.hub
+  pub base : new.base ≡ new.hub
+  pub pending : new.pending ≡ []
+  pub recorded : events_of (seen_after (calls_of new.disk)) ≡ []
   pub sound : new.condition ≡ Sound
-
--- A broker that was restored from a new one, with the number of its events and its time. Its
--- connections have ended.
-pub record IsOpened (begun : HubState) (new : DurableState JournalFile) (count clock : ℕ) : Type 0 where
-  pub restored : HubState
-  pub is_restored : IsRestored begun restored count
-  pub is_resumed : IsResumed (λ file. seen_after (calls_of file)) restored new
-  pub clock_is : clock ≡ restored.clock
+  pub clock_is : clock ≡ new.hub.clock

@@ -1,30 +1,20 @@
-//! Restoring a broker from the files of its journal.
+//! Restoring a broker from a snapshot and the journal that follows it.
 
-ghost use Rattle.std.specs.Prelude.{◌≡◌, ◌+◌, ◌++◌, ℕ, [], length, IfOk, OnOk};
-ghost use Rattle.mq_log.specs.Blocks.{entries};
-ghost use Rattle.mq_log.specs.Disk.{LeavesOnly, Only};
+ghost use Rattle.std.specs.Prelude.{◌≡◌, ◌<◌, [], length, IfOk, IfSome, IsTrue};
 ghost use Rattle.mq_durable.specs.Recorded.{events_in, events_in_all, events_of};
-ghost use Rattle.mq_durable.specs.Recovering.{latest};
-ghost use Rattle.mq_durable.specs.Replaying.{Replays};
-ghost use Rattle.mq_store.specs.Configuration.{number_bytes};
-ghost use Rattle.mq_store.specs.Restoring.{IsEndOf, IsResumed, MayBeLeft};
+ghost use Rattle.mq_route.specs.Hub.{HubState};
+ghost use Rattle.mq_route.specs.Snapshot.{snapshot};
+ghost use Rattle.mq_store.specs.Restoring.{EndsAfter, IsEnded, IsLoaded, IsRestored};
+ghost use Rattle.mq_store.specs.SnapshotFile.{parts_of, with_digest};
 
-use crate::configuration::put_number;
-use crate::fault::StoreError;
-use mq_durable::{Durable, Recovery};
-use mq_log::{Disk, Journal, begin, read_journal};
+use crate::fault::{StoreError, not_allowed};
+use crate::snapshot_file::Parts;
+use mq_durable::Recovery;
+use mq_hub::Hub;
+use mq_log::read_journal;
 use mq_record::{RecordFault, decode_events, record_laws};
-use std::alloc::Global;
-
-/// A broker to which the events of some files came.
-#[derive(Drop)]
-pub(crate) struct Replayed {
-    pub(crate) recovery: Recovery,
-    /// The number of events.
-    pub(crate) events: u64,
-    /// The end of each file: the number of bytes up to the end of its last entry, in eight bytes.
-    pub(crate) ends: Vec<u8>,
-}
+use mq_route::{HubConfig, snapshot_laws};
+use std::alloc::{AllocError, Global};
 
 // The number of events of an entry.
 fn count_in(alloc: Global, entry: &[u8]) -> Result<usize, StoreError>
@@ -38,11 +28,11 @@ fn count_in(alloc: Global, entry: &[u8]) -> Result<usize, StoreError>
     }
 }
 
-// The number of events of entries, added to a number.
-fn count_all(alloc: Global, before: u64, entries: &[Vec<u8>]) -> Result<u64, StoreError>
-    ensures { IfOk result (λ count. count ≡ before + length (events_in_all entries.now)) }
+// The number of events of entries.
+fn count_all(alloc: Global, entries: &[Vec<u8>]) -> Result<u64, StoreError>
+    ensures { IfOk result (λ count. count ≡ length (events_in_all entries.now)) }
 {
-    let mut count = before;
+    let mut count = 0u64;
     for entry in entries {
         let more = count_in(alloc, entry.as_slice())?;
         let Some(sum) = count.checked_add(more as u64) else {
@@ -53,64 +43,103 @@ fn count_all(alloc: Global, before: u64, entries: &[Vec<u8>]) -> Result<u64, Sto
     Ok(count)
 }
 
-// The number of events of a file, added to a number, and the end of its last entry.
-fn count_events(alloc: Global, before: u64, file: &[u8]) -> Result<(u64, usize), StoreError>
-    ensures events { IfOk result (λ found. found.0 ≡ before + length (events_of file.now)) }
-    ensures end { IfOk result (λ found. IsEndOf found.1 file.now) }
+// The number of events of a journal.
+fn count_events(alloc: Global, journal: &[u8]) -> Result<u64, StoreError>
+    ensures { IfOk result (λ count. count ≡ length (events_of journal.now)) }
 {
-    let contents = read_journal(alloc, file)?;
-    let events = count_all(alloc, before, contents.entries.as_slice())?;
-    Ok((events, contents.end))
+    let contents = read_journal(alloc, journal)?;
+    let events = count_all(alloc, contents.entries.as_slice())?;
+    Ok(events)
 }
 
-impl Replayed {
-    /// Steps the broker through the events of the next file.
-    ///
-    /// Errors are those of `Recovery::replay`, and `TooLong` if there are 2^64 events or more.
-    pub(crate) fn after(self, alloc: Global, file: &[u8]) -> Result<Replayed, StoreError>
-        ensures broker { IfOk result (λ new. Replays self.recovery (events_of file.now) new.recovery) }
-        ensures clock { IfOk result (λ new. new.recovery.clock ≡ latest self.recovery.clock (events_of file.now)) }
-        ensures events { IfOk result (λ new. new.events ≡ self.events + length (events_of file.now)) }
-        ensures ends { IfOk result (λ new. (end : ℕ) × IsEndOf end file.now
-            × (new.ends.items ≡ self.ends.items ++ number_bytes end)) }
-        ensures undamaged { OnOk result (MayBeLeft file.now) }
-    {
-        let Replayed {
-            recovery,
-            events,
-            mut ends,
-        } = self;
-        let (events, end) = count_events(alloc, events, file)?;
-        put_number(&mut ends, end as u64)?;
-        let recovery = recovery.replay(file)?;
-        Ok(Replayed {
-            recovery,
-            events,
-            ends,
-        })
+// Steps a broker through the events of a journal, and ends its connections.
+#[tactic(auto, using(crate::proofs::Restores::ended_after))]
+fn replay(alloc: Global, hub: Hub, journal: &[u8]) -> Result<Hub, StoreError>
+    ensures { IfOk result (EndsAfter hub journal.now) }
+{
+    let recovery = Recovery::of(alloc, hub)?;
+    let recovery = recovery.replay(journal)?;
+    let hub = recovery.end_all()?;
+    Ok(hub)
+}
+
+// The saved form of the broker after the events of a journal, whose connections have ended, and the
+// number of these events.
+fn replay_saved(
+    alloc: Global,
+    parts: Parts<'_>,
+    journal: &[u8],
+) -> Result<(Vec<u8>, u64), StoreError>
+    ensures { IfOk result (λ r. (ended : HubState) × (r.0.items ≡ snapshot ended)
+        × IsEnded (with_digest (parts_of parts.nth parts.config.now parts.hub.now)) journal.now ended r.1) }
+{
+    let events = count_events(alloc, journal)?;
+    let begun = parts.load(alloc)?;
+    let ended = replay(alloc, begun, journal)?;
+    let saved = ended.save()?;
+    Ok((saved, events))
+}
+
+// Loads a broker under a configuration.
+#[tactic(auto, using(crate::proofs::Restores::loaded))]
+fn load_under(alloc: Global, config: HubConfig, saved: &[u8]) -> Result<Hub, StoreError>
+    requires capacity { 0 < config.capacity }
+    requires window { IfSome config.window (λ window. 0 < window) }
+    ensures { IfOk result (λ hub. (old : HubState) → saved.now ≡ snapshot old → IsLoaded config old hub) }
+{
+    snapshot_laws();
+    match Hub::load(alloc, config, saved) {
+        Ok(hub) => Ok(hub),
+        Err(fault) => Err(not_allowed(fault)),
     }
 }
 
-/// Ends each connection of a restored broker, and returns the broker with a new journal. The ends
-/// are pending.
-///
-/// Errors, after which the new file must be dropped:
-///
-/// - `Unwritten` if the new file can't be written.
-/// - `Refused` if the broker refuses an end.
-/// - `TooMany` if the ends have 2^32 bytes or more.
-/// - `Memory` if an allocation fails.
-pub fn resume<D: Disk + Drop>(recovery: Recovery, disk: D) -> Result<Durable<D>, StoreError>
-    requires empty { D.seen disk ≡ [] }
-    requires synced { Only (D.seen disk) (D.may_leave disk) }
-    ensures resumed { IfOk result (λ durable. IsResumed D.seen recovery durable) }
-
-    // A crash at any time of the call leaves a new file with no entry.
-    ensures at_any_time { IfOk result (λ durable. LeavesOnly D.clock D.left_since disk durable.disk
-        (λ file. entries file ≡ [])) }
+// Whether a broker has no connection.
+#[tactic(auto, using(crate::proofs::Restores::no_connections))]
+fn is_without_connections(alloc: Global, hub: &Hub) -> Result<bool, AllocError>
+    ensures { IfOk result (λ is. IsTrue is → hub.now.connections ≡ []) }
 {
-    let mut disk = disk;
-    begin(&mut disk)?;
-    let durable = recovery.resume(Journal::new(disk))?;
-    Ok(durable)
+    let names = hub.connections(alloc)?;
+    match names.as_slice() {
+        [] => Ok(true),
+        _ => Ok(false),
+    }
+}
+
+/// A broker that was restored, without connections, and the number of its recovered events.
+#[derive(Drop)]
+pub(crate) struct Restored {
+    pub(crate) hub: Hub,
+    pub(crate) events: u64,
+}
+
+/// Restores a broker under a configuration: that of a snapshot's parts, after the events of a
+/// journal and the ends of all its connections.
+///
+/// Errors:
+///
+/// - `Snapshot` if the parts are no broker.
+/// - `Damaged`, `Entry` or `Refused` if no broker writes this journal after the snapshot.
+/// - `TooLarge` or `Capacity` if the configuration does not allow the broker.
+/// - `TooLong` if there are 2^64 events.
+/// - `Memory` if an allocation fails.
+pub(crate) fn restore(
+    alloc: Global,
+    config: HubConfig,
+    parts: Parts<'_>,
+    journal: &[u8],
+) -> Result<Restored, StoreError>
+    requires capacity { 0 < config.capacity }
+    requires window { IfSome config.window (λ window. 0 < window) }
+    ensures restored { IfOk result (λ r.
+        IsRestored config (with_digest (parts_of parts.nth parts.config.now parts.hub.now)) journal.now r.hub r.events) }
+    ensures none { IfOk result (λ r. r.hub.connections ≡ []) }
+{
+    let (saved, events) = replay_saved(alloc, parts, journal)?;
+    let hub = load_under(alloc, config, saved.as_slice())?;
+    if is_without_connections(alloc, &hub)? {
+        Ok(Restored { hub, events })
+    } else {
+        Err(StoreError::Refused)
+    }
 }
