@@ -102,7 +102,8 @@ impl Recovery {
         ensures clock { IfOk result (λ hub. hub.clock ≡ self.clock) }
         ensures none { IfOk result (λ hub. hub.connections ≡ []) }
     {
-        let Progress { hub, opened } = self.progress;
+        let Recovery { progress, .. } = self;
+        let Progress { hub, opened } = progress;
         let mut hub = hub;
         end_each(&mut hub, opened.as_slice())?;
         Ok(hub)
