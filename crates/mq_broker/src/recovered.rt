@@ -1,4 +1,4 @@
-//! A broker with a journal.
+//! A broker that is kept in a folder.
 
 ghost use Rattle.std.specs.Prelude.{◌≡◌, ◌≢◌, length, IfErr, IfOk};
 ghost use Rattle.mq_broker.specs.Configuration.{configuration};
@@ -15,8 +15,7 @@ use crate::open_error::OpenError;
 use crate::options::BrokerOptions;
 use crate::server::run_at;
 use crate::site::Site;
-use mq_file::Keep;
-use mq_store::{Store, open_store};
+use mq_store::{Store, StoreOptions, open_store};
 use std::alloc::Global;
 use std::fs::File;
 use std::io::Write;
@@ -25,7 +24,7 @@ use std::net::Net;
 use std::rt::Files;
 use std::time;
 
-/// A broker that was recovered from a folder, and that keeps its journal there.
+/// A broker that was recovered from a folder, and that keeps its snapshot and its journal there.
 ///
 /// Contracts see the broker, and the number of events that were recovered.
 #[derive(Drop)]
@@ -59,7 +58,7 @@ impl RecoveredBroker {
         alloc: Global,
         options: BrokerOptions,
         folder: &str,
-        keep: Keep,
+        store: StoreOptions,
     ) -> Result<RecoveredBroker, OpenError>
         ensures recovered { IfOk result (IsRecovered (new_hub (configuration options))) }
         ensures allowed { IfOk result (λ _. IsPacketLimit options.max_packet) }
@@ -70,7 +69,7 @@ impl RecoveredBroker {
             return Err(OpenError::PacketLimit);
         };
         let site = Site::new(&options, packets);
-        match open_store(rt, alloc, folder, keep, options.into_config(packets)) {
+        match open_store(rt, alloc, folder, store, options.into_config(packets)) {
             Ok(store) => Ok(RecoveredBroker { site, store }),
             Err(error) => Err(OpenError::Store(error)),
         }
@@ -91,7 +90,7 @@ impl RecoveredBroker {
     }
 
     /// Runs the broker, as [`run_broker`](crate::run_broker).
-    pub fn run<R: Net + time::Clock, W: Write, L: Write + Drop>(
+    pub fn run<R: Net + time::Clock + Files<File = File>, W: Write, L: Write + Drop>(
         self,
         rt: &R,
         alloc: Global,
@@ -107,9 +106,13 @@ impl RecoveredBroker {
             clock,
             ..
         } = store;
-        let ran = run_at(rt, alloc, site, Kept(durable), clock, output, log);
-        drop(folder);
-        match ran {
+        let kept = Kept {
+            rt,
+            alloc,
+            durable,
+            folder,
+        };
+        match run_at(rt, alloc, site, kept, clock, output, log) {
             Ok(()) => BrokerEnd::Listener,
             Err(end) => end,
         }

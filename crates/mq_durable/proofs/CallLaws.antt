@@ -2,7 +2,7 @@
 use Rattle.std.proofs.Common.{◌≡◌, ⊎_elim, ℕ, List, [], ◌∷◌, ◌++◌, refl, sym, ap, ◌∙◌, subst, append_assoc}
 use Rattle.std.proofs.lemmas.List.{append-nil}
 use Rattle.mq_route.specs.declared.event.HubEvent.{HubEvent}
-use Rattle.mq_durable.specs.Calls.{DurableCall, Stepped, Committed, Collected, MakesCalls, came, shown, IsPrefix, DurableLaws}
+use Rattle.mq_durable.specs.Calls.{DurableCall, Stepped, Committed, Collected, Continued, MakesCalls, came, shown, IsPrefix, DurableLaws}
 use Rattle.mq_durable.specs.Recorded.{events_of, HoldsAllOrNone}
 use Rattle.mq_durable.specs.State.{DurableState}
 
@@ -49,6 +49,12 @@ module _ {D : Type 0} (seen : D → List ℕ) where
       promised calls u t before before file
       (is ∙ sym (append-nil (events_of (seen u.disk))) ∙ ap (λ (l : List HubEvent). events_of (seen u.disk) ++ l) (sym made.1.2))
       (subst (IsPrefix before) is (whole before)) made.2 holds
+  promised (Continued ∷ calls) s t before last file all some made holds =
+      let u : DurableState D = made.0 in
+      let none : events_of (seen u.disk) ≡ [] = made.1.2 in
+      promised calls u t [] [] file
+      (sym (ap (λ (l : List HubEvent). l ++ u.pending) none ∙ made.1.3))
+      (events_of (seen u.disk), refl) made.2 holds
 
   pub laws : DurableLaws seen
   laws = record {

@@ -58,6 +58,17 @@ module _ {D : Type 0} (seen : D → List ℕ) (may_leave : D → List ℕ → Ty
         kept = λ sound. new_kept hub journal settled (ap entries begun);
       })
 
+  -- another file
+  pub continued : (base hub : HubState) (journal later : Journal D) (entry : List ℕ) (condition : Condition) → IsDurable seen may_leave base hub journal entry condition → events_in entry ≡ []
+      → IsSettled seen may_leave later → seen later.disk ≡ at_rest [] → IsDurable seen may_leave hub hub later entry condition
+  continued base hub journal later entry condition d none settled begun =
+      let empty : entry ≡ [] = is_empty entry d.encoded none in
+      record {
+        encoded = d.encoded;
+        short = d.short;
+        kept = λ sound. subst (λ (e : List ℕ). IsKept seen may_leave hub hub later (events_in e)) (sym empty) (new_kept hub later settled (ap entries begun));
+      }
+
   -- a step
   pub stepped : (laws : RecordLaws) (base hub next : HubState) (journal : Journal D) (entry later : List ℕ) (event : HubEvent) (reply : HubReply) (condition after : Condition)
       → IsDurable seen may_leave base hub journal entry condition → condition ≢ Broken → HubStep hub event reply next → is_recorded event ≡ true
@@ -250,6 +261,13 @@ pub new_state : {D : Type 0} (base hub : HubState) (disk : D) (entry : List ℕ)
 new_state base hub disk entry same none =
     let found : events_in entry ≡ [] = ap events_in none ∙ none_found in
     λ i. state (same i) hub (found i) disk Sound
+
+-- another file
+pub continued_state : {D : Type 0} (base new hub : HubState) (pending : List HubEvent) (disk later : D) (condition : Condition) (old : DurableState D)
+    → state base hub pending disk condition ≡ old → new ≡ hub → state new hub pending later condition ≡ record old { base = old.hub; disk = later }
+continued_state {D} base new hub pending disk later condition old view same =
+    subst (λ (o : DurableState D). state new hub pending later condition ≡ record o { base = o.hub; disk = later }) view
+    (ap (λ (h : HubState). state h hub pending later condition) same)
 
 -- the test for pending events
 pub pending_test : {D : Type 0} (b : Bool) (base hub : HubState) (disk : D) (slice entry : List ℕ) (condition : Condition) (old : DurableState D)

@@ -130,6 +130,3 @@ none_known h all = go h.connections all
     go : (xs : List HubConnection) → ((n : Conn) → knows n xs ≡ true → is_among n [] ≡ true) → xs ≡ []
     go [] all = refl
     go (x ∷ xs) all = absurd (true≢false (sym (all x.conn (ap (λ (b : Bool). b || knows x.conn xs) (itself x.conn)))))
-
-pub new_known : (h : HubState) → h.connections ≡ [] → AreKnownAmong [] h
-new_known h none n known = subst (λ (xs : List HubConnection). knows n xs ≡ true) none known

@@ -4,27 +4,24 @@ use Rattle.std.proofs.Math.Seq.{take-suc}
 use Rattle.std.proofs.lemmas.Grind.{flat_map-append}
 use Rattle.std.proofs.lemmas.List.{append-nil}
 use Rattle.std.specs.declared.alloc.Global.{Global}
-use Rattle.std.specs.List.{flat_map, AllByRecursion}
+use Rattle.std.specs.List.{flat_map, list_any, AllByRecursion}
+use Rattle.std.proofs.lemmas.Bool.{false≢true}
 use Rattle.mq_route.specs.declared.conn.Conn.{Conn}
 use Rattle.mq_route.specs.declared.event.HubEvent.{HubEvent}
-use Rattle.mq_route.specs.declared.event.HubEvent.TheVariants.{Ended}
-use Rattle.mq_route.specs.declared.reply.HubReply.{HubReply}
-use Rattle.mq_route.specs.Hub.{HubState}
+use Rattle.mq_route.specs.declared.event.HubEvent.TheVariants.{Opened, Bytes, Ended, Tick, Collect}
+use Rattle.mq_route.specs.Hub.{HubState, knows}
+use Rattle.mq_route.specs.Routed.{same_conn}
 use Rattle.mq_route.specs.Runs.{Episode, Follows}
 use Rattle.mq_route.specs.Step.{HubStep}
 use Rattle.mq_record.specs.Reading.{IsEntry}
 use Rattle.mq_log.specs.declared.reader.Tail.TheVariants.{Closed, Torn, CutShort, Damaged}
 use Rattle.mq_log.specs.Blocks.{entries, gate, tail_of, stored_length}
-use Rattle.mq_durable.specs.declared.condition.Condition.{Condition}
-use Rattle.mq_durable.specs.declared.condition.Condition.TheVariants.{Sound, OutOfMemory}
 use Rattle.mq_durable.specs.Recorded.{AreReadable, events_in, events_in_all, events_of, IsReadable}
 use Rattle.mq_durable.specs.declared.progress.Progress.{Progress}
-use Rattle.mq_durable.specs.Recovering.{AreEnds, AreKnownAmong, Continues, HasEnded, IsRecovering, later, latest, opened_by}
+use Rattle.mq_durable.specs.Recovering.{AreEnds, AreKnownAmong, Continues, HasEnded, is_end, later, latest, opened_by}
 use Rattle.mq_durable.specs.Replaying.{Replays}
-use Rattle.mq_durable.specs.State.{DurableState}
-use Rattle.mq_durable.proofs.Names.{new_known, step_clock, step_known}
-use Rattle.mq_durable.specs.Memory.{reports_memory}
-use Rattle.mq_durable.proofs.Runs.{replays_all, replays_none, replays_one}
+use Rattle.mq_durable.proofs.Names.{ended_known, step_clock, step_known}
+use Rattle.mq_durable.proofs.Runs.{replays_all, replays_none}
 
 -- ---- entries
 
@@ -93,82 +90,72 @@ continues_all p q r events more first second = record {
   recovering = λ is. second.recovering (first.recovering is);
 }
 
-one_step : (p q : Progress) (event : HubEvent) (e : Episode) (rest : List Episode) → e.event ≡ event → Follows p.hub (e ∷ rest) q.hub → rest ≡ []
-    → HubStep p.hub event e.reply q.hub
-one_step p q event e rest is f none =
-    let end : q.hub ≡ e.work.hub = subst (λ (es : List Episode). Follows e.work.hub es q.hub) none f.2 in
-    subst (λ (x : HubEvent). HubStep p.hub x e.reply q.hub) is (record { right = f.0; work = e.work; does = f.1; after = end })
+one_step : (h g : HubState) (event : HubEvent) (e : Episode) (rest : List Episode) → e.event ≡ event → Follows h (e ∷ rest) g → rest ≡ [] → HubStep h event e.reply g
+one_step h g event e rest is f none =
+    let end : g ≡ e.work.hub = subst (λ (es : List Episode). Follows e.work.hub es g) none f.2 in
+    subst (λ (x : HubEvent). HubStep h x e.reply g) is (record { right = f.0; work = e.work; does = f.1; after = end })
 
-pub continues_one : (p q : Progress) (event : HubEvent) → Replays p.hub (event ∷ []) q.hub → q.clock ≡ later p.clock event → q.opened.items ≡ opened_by event p.opened.items
-    → Continues p (event ∷ []) q
-continues_one p q event r clock opened = record {
+pub continues_one : (p q : Progress) (event : HubEvent) → Replays p.hub (event ∷ []) q.hub → q.opened.items ≡ opened_by event p.opened.items → Continues p (event ∷ []) q
+continues_one p q event r opened = record {
   replays = r;
-  recovering = λ is. record {
-    known = subst (λ (l : List Conn). AreKnownAmong l q.hub) (sym opened) (known r.episodes r.came r.follows is.known);
-    clock_is = clock ∙ ap (λ (n : ℕ). later n event) is.clock_is ∙ sym (replays_clock p.hub q.hub (event ∷ []) r);
-  };
+  recovering = λ is. subst (λ (l : List Conn). AreKnownAmong l q.hub) (sym opened) (known r.episodes r.came r.follows is);
 }
   where
     known : (es : List Episode) → map (λ (e : Episode). e.event) es ≡ event ∷ [] → Follows p.hub es q.hub → AreKnownAmong p.opened.items p.hub → AreKnownAmong (opened_by event p.opened.items) q.hub
     known [] came f all = absurd cc
     known (e ∷ []) came f all =
         let is : e.event ≡ event = cc in
-        step_known p.hub q.hub event e.reply p.opened.items (one_step p q event e [] is f refl) all
+        step_known p.hub q.hub event e.reply p.opened.items (one_step p.hub q.hub event e [] is f refl) all
     known (e ∷ x ∷ es) came f all = absurd cc
 
 -- ---- ends of connections
 
-pub ended_none : {D : Type 0} (durable : DurableState D) → durable.condition ≡ Sound → HasEnded durable durable
-ended_none durable sound = record {
-  base = refl;
-  disk = refl;
-  sound = sound;
-  ends = [];
-  pending = sym (append-nil durable.pending);
-  are_ends = tt;
-  replays = replays_none durable.hub;
-}
+pub ended_none : (hub : HubState) → HasEnded hub hub
+ended_none hub = record { ends = []; are_ends = tt; replays = replays_none hub }
+
+pub ended_one : (old new : HubState) (conn : Conn) → Replays old (Ended conn ∷ []) new → HasEnded old new
+ended_one old new conn replays = record { ends = Ended conn ∷ []; are_ends = (refl, tt); replays = replays }
 
 are_ends_all : (es fs : List HubEvent) → AreEnds es → AreEnds fs → AreEnds (es ++ fs)
 are_ends_all [] fs first more = more
 are_ends_all (e ∷ es) fs first more = (first.0, are_ends_all es fs first.1 more)
 
-pub ended_all : {D : Type 0} (a b c : DurableState D) → HasEnded a b → HasEnded b c → HasEnded a c
+pub ended_all : (a b c : HubState) → HasEnded a b → HasEnded b c → HasEnded a c
 ended_all a b c first second = record {
-  base = second.base ∙ first.base;
-  disk = second.disk ∙ first.disk;
-  sound = second.sound;
   ends = first.ends ++ second.ends;
-  pending = second.pending ∙ ap (λ (l : List HubEvent). l ++ second.ends) first.pending ∙ append_assoc a.pending first.ends second.ends;
   are_ends = are_ends_all first.ends second.ends first.are_ends second.are_ends;
-  replays = replays_all a.hub b.hub c.hub first.ends second.ends first.replays second.replays;
+  replays = replays_all a b c first.ends second.ends first.replays second.replays;
 }
 
--- a reply after which the condition is sound
-pub quiet : (b : Bool) → (if b then OutOfMemory else Sound) ≡ Sound → b ≡ false
-quiet true e = absurd cc
-quiet false e = refl
+-- an end of a connection reports no time
+latest_end : (event : HubEvent) (time : ℕ) → is_end event ≡ true → later time event ≡ time
+latest_end (Opened conn) time is = refl
+latest_end (Bytes conn piece) time is = refl
+latest_end (Ended conn) time is = refl
+latest_end (Tick now) time is = absurd (false≢true is)
+latest_end (Collect conn) time is = refl
 
--- a recovery that begins
-pub begins : (hub : HubState) (progress : Progress) → progress.hub ≡ hub → progress.clock ≡ 0 → progress.opened.items ≡ [] → hub.connections ≡ [] → hub.clock ≡ 0 → IsRecovering progress
-begins hub progress is time opened none zero = record {
-  known = subst (λ (l : List Conn). AreKnownAmong l progress.hub) (sym opened) (new_known progress.hub (ap (λ (h : HubState). h.connections) is ∙ none));
-  clock_is = time ∙ sym zero ∙ sym (ap (λ (h : HubState). h.clock) is);
-}
+latest_ends : (events : List HubEvent) (time : ℕ) → AreEnds events → latest time events ≡ time
+latest_ends [] time are = refl
+latest_ends (e ∷ es) time are = ap (λ (n : ℕ). latest n es) (latest_end e time are.0) ∙ latest_ends es time are.1
 
--- the first of these connections ended, or is not known
-pub one_ended : {D : Type 0} (old new : DurableState D) (conn : Conn) (reply : HubReply) (after : Condition) → old.condition ≡ Sound → HubStep old.hub (Ended conn) reply new.hub
-    → new ≡ record old { hub = new.hub; pending = old.pending ++ Ended conn ∷ []; condition = after } → after ≡ (if reports_memory reply then OutOfMemory else Sound) → new.condition ≡ Sound
-    → HasEnded old new
-one_ended {D} old new conn reply after was step is condition sound = record {
-  base = ap (λ (d : DurableState D). d.base) is;
-  disk = ap (λ (d : DurableState D). d.disk) is;
-  sound = sound;
-  ends = Ended conn ∷ [];
-  pending = ap (λ (d : DurableState D). d.pending) is;
-  are_ends = (refl, tt);
-  replays = replays_one old.hub new.hub (Ended conn) reply step (quiet (reports_memory reply) (sym condition ∙ sym (ap (λ (d : DurableState D). d.condition) is) ∙ sound));
-}
+pub ended_clock : (old new : HubState) → HasEnded old new → new.clock ≡ old.clock
+ended_clock old new ended = replays_clock old new ended.ends ended.replays ∙ latest_ends ended.ends old.clock ended.are_ends
+
+-- the first of some connections ended
+pub one_ended : (old new : HubState) (conn : Conn) (others : List Conn) → Replays old (Ended conn ∷ []) new → AreKnownAmong (conn ∷ others) old → AreKnownAmong others new
+one_ended old new conn others r all = known r.episodes r.came r.follows
+  where
+    known : (es : List Episode) → map (λ (e : Episode). e.event) es ≡ Ended conn ∷ [] → Follows old es new → AreKnownAmong others new
+    known [] came f = absurd cc
+    known (e ∷ []) came f =
+        let is : e.event ≡ Ended conn = cc in
+        ended_known old new conn e.reply others (one_step old new (Ended conn) e [] is f refl) all
+    known (e ∷ x ∷ es) came f = absurd cc
+
+-- the listed connections are all that the broker knows
+pub begins : (hub : HubState) (listed : List Conn) → ((conn : Conn) → list_any (λ name. same_conn name conn) listed ≡ knows conn hub.connections) → AreKnownAmong listed hub
+begins hub listed are conn known = are conn ∙ known
 
 -- ---- answers of calls
 
@@ -194,27 +181,7 @@ pub of_slice : (p q : Progress) (all slice : List Entry) (file : List ℕ) → s
 of_slice p q all slice file same are continues =
     subst (λ (l : List HubEvent). Continues p l q) (ap events_in_all same ∙ of_read all file are) continues
 
--- a broker whose connections have all ended, behind a new journal
-pub record IsResumed {D : Type 0} (hub : HubState) (disk : D) (new : DurableState D) : Type 0 where
-  pub base : new.base ≡ hub
-  pub disk_is : new.disk ≡ disk
-  pub ends : AreEnds new.pending
-  pub replays : Replays hub new.pending new.hub
-  pub sound : new.condition ≡ Sound
-
-pub resumed : {D : Type 0} (hub : HubState) (disk : D) (old new : DurableState D)
-    → old ≡ record { base = hub; hub = hub; pending = []; disk = disk; condition = Sound } → HasEnded old new → IsResumed hub disk new
-resumed {D} hub disk old new is ended =
-    let e : HasEnded (record { base = hub; hub = hub; pending = []; disk = disk; condition = Sound }) new = subst (λ (o : DurableState D). HasEnded o new) is ended in
-    record {
-      base = e.base;
-      disk_is = e.disk;
-      ends = subst AreEnds (sym e.pending) e.are_ends;
-      replays = subst (λ (l : List HubEvent). Replays hub l new.hub) (sym e.pending) e.replays;
-      sound = e.sound;
-    }
-
--- the first of some connections ended
+-- the first of some connections is next
 pub next_ended : (conns : List Conn) (i : ℕ) (first : Conn) (hub : HubState) → i < length conns → AreKnownAmong (drop i conns) hub → AreKnownAmong (get_or conns i first ∷ drop (i + 1) conns) hub
 next_ended conns i first hub within known =
     subst (λ (l : List Conn). AreKnownAmong l hub) (drop-cons conns i first within ∙ ap (λ (n : ℕ). get_or conns i first ∷ drop n conns) (sym (add-one i))) known

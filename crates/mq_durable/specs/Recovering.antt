@@ -5,10 +5,8 @@ use Rattle.mq_route.specs.declared.conn.Conn.{Conn}
 use Rattle.mq_route.specs.declared.event.HubEvent.{HubEvent}
 use Rattle.mq_route.specs.declared.event.HubEvent.TheVariants.{Opened, Bytes, Ended, Tick, Collect}
 use Rattle.mq_route.specs.Hub.{HubState, knows}
-use Rattle.mq_durable.specs.declared.condition.Condition.TheVariants.{Sound}
 use Rattle.mq_durable.specs.declared.progress.Progress.{Progress}
 use Rattle.mq_durable.specs.Replaying.{Replays}
-use Rattle.mq_durable.specs.State.{DurableState}
 use Rattle.mq_route.specs.Routed.{same_conn}
 
 -- the connection is among these
@@ -52,23 +50,17 @@ opened_by (Ended conn) conns = conns
 opened_by (Tick now) conns = conns
 opened_by (Collect conn) conns = conns
 
--- The facts of a recovery: the connections of the broker are among those that events opened, and
--- the clock is the broker's.
-pub record IsRecovering (progress : Progress) : Type 0 where
-  pub known : AreKnownAmong progress.opened.items progress.hub
-  pub clock_is : progress.clock ≡ progress.hub.clock
+-- the connections of the broker are among those that are listed
+abbrev pub IsRecovering : Progress → Type 0
+IsRecovering progress = AreKnownAmong progress.opened.items progress.hub
 
 -- Events led a broker on.
 pub record Continues (old : Progress) (events : List HubEvent) (new : Progress) : Type 0 where
   pub replays : Replays old.hub events new.hub
   pub recovering : IsRecovering old → IsRecovering new
 
--- Ends of connections led from one durable broker to another. They are pending.
-pub record HasEnded {D : Type 0} (old new : DurableState D) : Type 0 where
-  pub base : new.base ≡ old.base
-  pub disk : new.disk ≡ old.disk
-  pub sound : new.condition ≡ Sound
+-- Ends of connections led from one broker to another.
+pub record HasEnded (old new : HubState) : Type 0 where
   pub ends : List HubEvent
-  pub pending : new.pending ≡ old.pending ++ ends
   pub are_ends : AreEnds ends
-  pub replays : Replays old.hub ends new.hub
+  pub replays : Replays old ends new

@@ -2,14 +2,14 @@
 
 ghost use Rattle.std.specs.Prelude.{◌≡◌, ◌≢◌, ◌<◌, ◌↔◌, [], ◌∷◌, ◌++◌, true, false, length, take, IfOk, IfErr, OnOk, OnErr};
 ghost use Rattle.mq_log.specs.Blocks.{at_rest};
-ghost use Rattle.mq_log.specs.Disk.{LeavesOnly};
+ghost use Rattle.mq_log.specs.Disk.{LeavesOnly, Only};
 ghost use Rattle.mq_log.specs.Journal.{IsSettled};
 ghost use Rattle.mq_record.specs.Encoding.{is_recorded};
 ghost use Rattle.mq_route.specs.declared.event.HubEvent.TheVariants.{Bytes, Collect};
 ghost use Rattle.mq_route.specs.Step.{HubStep};
 ghost use Rattle.mq_route.specs.StepSome.{HubStepSome};
 ghost use Rattle.mq_durable.specs.declared.condition.Condition.TheVariants.{Sound, Broken};
-ghost use Rattle.mq_durable.specs.Calls.{Collected, Committed, MakesCall, Stepped};
+ghost use Rattle.mq_durable.specs.Calls.{Collected, Committed, Continued, MakesCall, Stepped};
 ghost use Rattle.mq_durable.specs.Recorded.{AfterCrash, HoldsAllOrNone, events_of};
 ghost use Rattle.mq_durable.specs.State.{FollowsJournal, IsCommitRefused, IsStepRefused, after_failure, after_step, reply_in};
 
@@ -18,11 +18,12 @@ use crate::fault::{CommitError, StepRefusal};
 use crate::noted::{collect_from, step_noted, step_some_noted};
 use crate::outcome::{condition_after, condition_after_some};
 use mq_hub::Hub;
-use mq_log::{Disk, Journal, journal_laws};
+use mq_log::{Disk, Journal, begin, journal_laws};
 use mq_record::record_laws;
 use mq_route::{Conn, HubEvent, HubReply};
 use std::alloc::Global;
 use std::marker::Model;
+use std::mem;
 use std::snapshot::Snapshot;
 
 /// A broker with a journal of its events.
@@ -86,8 +87,8 @@ fn has_bytes(entry: &[u8]) -> bool
 impl<D: Disk> Durable<D> {
     /// A broker whose events are recorded in a journal that has no entry.
     ///
-    /// The journal records the events after this call. See [`Recovery`](crate::Recovery) for the
-    /// ones before.
+    /// The journal records the events after this call. A snapshot of the broker keeps the result of
+    /// the ones before, apart from pending output.
     pub fn new(alloc: Global, hub: Hub, journal: Journal<D>) -> Durable<D>
         requires settled { IsSettled D.seen D.may_leave journal }
         requires begun { D.seen journal.disk ≡ at_rest [] }
@@ -281,6 +282,48 @@ impl<D: Disk> Durable<D> {
                 self.condition = Condition::Broken;
                 Err(CommitError::Disk(error))
             }
+        }
+    }
+}
+
+impl<D: Disk + Drop> Durable<D> {
+    /// Continues in another file, which must be empty and synced. No event must be pending. On `Ok`
+    /// the broker as it is now is the base of the new file, and the old file is returned.
+    ///
+    /// Commit nothing until a snapshot of the broker is durable: a start that reads the old file
+    /// misses the events of the new one.
+    ///
+    /// On `Err` nothing changes, and the old file may be used further. Errors:
+    ///
+    /// - `OutOfMemory` if a step reported that an allocation failed.
+    /// - `Broken` if a commit failed before.
+    /// - `Disk` if the new file fails. It is dropped.
+    pub fn continue_in(&mut self, disk: D) -> Result<D, CommitError>
+        requires committed { self.old.pending ≡ [] }
+        requires empty { D.seen disk ≡ [] }
+        requires synced { Only (D.seen disk) (D.may_leave disk) }
+        ensures ok { OnOk result (self.new
+            ≡ record self.old { base = self.old.hub; disk = self.new.disk }) }
+        ensures begun { OnOk result (D.seen self.new.disk ≡ at_rest []) }
+        ensures none { OnOk result (events_of (D.seen self.new.disk) ≡ []) }
+        ensures returned { IfOk result (λ file. file ≡ self.old.disk) }
+        ensures sound { OnOk result (self.old.condition ≡ Sound) }
+        ensures call { OnOk result (MakesCall D.seen Continued self.old self.new) }
+        ensures err { OnErr result (self.new ≡ self.old) }
+        ensures refused { IfErr result (IsCommitRefused self.old self.new) }
+    {
+        let mut disk = disk;
+        match self.condition {
+            Condition::Sound => match begin(&mut disk) {
+                Ok(()) => {
+                    let journal = mem::replace(&mut self.journal, Journal::new(disk));
+                    self.base = Snapshot::of(&self.hub);
+                    Ok(journal.disk)
+                }
+                Err(error) => Err(CommitError::Disk(error)),
+            },
+            Condition::OutOfMemory => Err(CommitError::OutOfMemory),
+            Condition::Broken => Err(CommitError::Broken),
         }
     }
 }

@@ -49,9 +49,6 @@ pub enum RecoverError {
     /// An allocation failed, or a reply reports so.
     #[error("out of memory")]
     Memory,
-    /// The ends of the connections have too many bytes for an entry.
-    #[error("too many connections are open")]
-    TooMany,
 }
 
 impl From<AllocError> for RecoverError {

@@ -3,15 +3,18 @@
 //!
 //! Order of calls:
 //!
-//! 1. After a start, [`Recovery::new`], then [`Recovery::replay`] with the bytes of each file of
-//!    the journal, oldest first, then [`Recovery::resume`] with a new file.
-//! 2. In each round [`Durable::step`] or [`Durable::step_some`] for the events that came, then
+//! 1. After a start, [`Recovery::of`] with the broker of the snapshot, or with a new one. Then
+//!    [`Recovery::replay`] with the bytes of the journal's file, and [`Recovery::end_all`].
+//! 2. [`Durable::new`] with that broker and an empty file. A snapshot of the broker must be durable
+//!    before the first commit.
+//! 3. In each round [`Durable::step`] or [`Durable::step_some`] for the events that came, then
 //!    [`Durable::commit`], then [`Durable::collect`] for each connection that may have output.
-//! 3. If `commit` returns an error, the process must end without giving out any output. It
+//! 4. If the file is long, [`Durable::continue_in`] after a commit, and then a new snapshot.
+//! 5. If `commit` returns an error, the process must end without giving out any output. It
 //!    continues at 1.
 //!
-//! `collect` requires that no event is pending. So at any time the journal has each event that came
-//! before the last output was collected.
+//! `collect` requires that no event is pending. So at any time the snapshot and the file have each
+//! event that came before the last output was collected.
 //!
 //! The events of a file are those of its entries. `Collect` is not recorded: it only takes pending
 //! output, which a crash discards.

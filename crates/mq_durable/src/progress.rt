@@ -3,7 +3,7 @@
 ghost use Rattle.std.specs.Prelude.{◌≡◌, ◌∷◌, [], IfOk, OnOk};
 ghost use Rattle.mq_record.specs.Reading.{IsEntry};
 ghost use Rattle.mq_durable.specs.Recorded.{AreReadable, events_in, events_in_all};
-ghost use Rattle.mq_durable.specs.Recovering.{Continues, later, opened_by};
+ghost use Rattle.mq_durable.specs.Recovering.{Continues, opened_by};
 ghost use Rattle.mq_durable.specs.Replaying.{Replays};
 
 use crate::fault::RecoverError;
@@ -17,21 +17,9 @@ use std::alloc::Global;
 #[derive(Drop)]
 pub(crate) struct Progress {
     pub(crate) hub: Hub,
-    /// The latest time that the events report.
-    pub(crate) clock: u64,
-    /// The connections that the events opened, in order. Some have ended since.
+    /// The connections from before the events, and those that the events opened. Some have ended
+    /// since.
     pub(crate) opened: Vec<Conn>,
-}
-
-// The later one of a time and the time that an event reports.
-fn later(time: u64, event: &HubEvent) -> u64
-    ensures { result ≡ later time event.now }
-{
-    match event {
-        HubEvent::Tick(now) => time.max(*now),
-        HubEvent::Opened(_) | HubEvent::Bytes(_, _) | HubEvent::Ended(_) | HubEvent::Collect(_) =>
-            time,
-    }
 }
 
 // Adds the connection that the event opens.
@@ -50,7 +38,7 @@ fn note_opened(opened: &mut Vec<Conn>, event: &HubEvent) -> Result<(), RecoverEr
 }
 
 // Steps the broker through one event. No reply may report that an allocation failed.
-fn replay_on(hub: &mut Hub, event: &HubEvent) -> Result<(), RecoverError>
+pub(crate) fn replay_on(hub: &mut Hub, event: &HubEvent) -> Result<(), RecoverError>
     ensures { OnOk result (Replays hub.old (event.now ∷ []) hub.new) }
 {
     match hub.step(event) {
@@ -84,9 +72,7 @@ impl Progress {
         ensures { OnOk result (Continues self.old (event.now ∷ []) self.new) }
     {
         note_opened(&mut self.opened, event)?;
-        replay_on(&mut self.hub, event)?;
-        self.clock = later(self.clock, event);
-        Ok(())
+        replay_on(&mut self.hub, event)
     }
 
     // Steps the broker through events. On `Err` the progress must be dropped.

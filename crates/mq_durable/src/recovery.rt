@@ -1,26 +1,22 @@
 //! Restoring a broker from its journal.
 
 ghost use Rattle.std.specs.Prelude.{◌≡◌, ◌≢◌, ◌⊎◌, ◌∷◌, [], List, true, IfOk, OnOk};
-ghost use Rattle.mq_log.specs.Blocks.{at_rest, gate, rest};
+ghost use Rattle.mq_log.specs.Blocks.{gate, rest};
 ghost use Rattle.mq_log.specs.declared.reader.Tail.TheVariants.{Closed, Torn};
-ghost use Rattle.mq_log.specs.Journal.{IsSettled};
 ghost use Rattle.mq_route.specs.declared.conn.Conn.{Conn};
-ghost use Rattle.mq_durable.specs.declared.condition.Condition.TheVariants.{Sound};
 ghost use Rattle.mq_durable.specs.Recorded.{IsReadable, events_of};
-ghost use Rattle.mq_durable.specs.Recovering.{AreEnds, AreKnownAmong, HasEnded, latest};
+ghost use Rattle.mq_durable.specs.Recovering.{AreKnownAmong, HasEnded, latest};
 ghost use Rattle.mq_durable.specs.Replaying.{Replays};
 
-use crate::condition::Condition;
-use crate::durable::Durable;
-use crate::fault::{RecoverError, StepRefusal};
-use crate::progress::Progress;
+use crate::fault::RecoverError;
+use crate::progress::{Progress, replay_on};
 use mq_hub::Hub;
-use mq_log::{Disk, Journal, Tail, read_journal};
-use mq_route::{Conn, HubEvent, HubRefusal};
-use std::alloc::Global;
+use mq_log::{Tail, read_journal};
+use mq_route::{Conn, HubEvent};
+use std::alloc::{AllocError, Global};
 use std::marker::Model;
 
-/// A broker that is being restored from the files of its journal. Contracts see it as that broker.
+/// A broker that is being restored from its journal. Contracts see it as that broker.
 #[derive(Drop)]
 pub struct Recovery {
     alloc: Global,
@@ -55,18 +51,13 @@ fn is_whole(tail: Tail) -> bool
 }
 
 impl Recovery {
-    /// Begins to restore a broker. `hub` must be new, or at least know no connection and no time.
-    pub fn new(alloc: Global, hub: Hub) -> Recovery
-        requires connections { hub.connections ≡ [] }
-        requires clock { hub.clock ≡ 0 }
-        ensures { result ≡ hub }
+    /// Begins to restore a broker: a new one, or that of a snapshot, with its connections.
+    pub fn of(alloc: Global, hub: Hub) -> Result<Recovery, AllocError>
+        ensures { IfOk result (λ recovery. recovery ≡ hub) }
     {
-        let progress = Progress {
-            hub,
-            clock: 0,
-            opened: Vec::new(alloc),
-        };
-        Recovery { alloc, progress }
+        let opened = hub.connections(alloc)?;
+        let progress = Progress { hub, opened };
+        Ok(Recovery { alloc, progress })
     }
 
     /// The broker after the events that were read.
@@ -76,16 +67,7 @@ impl Recovery {
         &self.progress.hub
     }
 
-    /// The latest time that these events report, in milliseconds. The clock of the process must
-    /// continue from it.
-    pub fn clock(&self) -> u64
-        ensures { result ≡ self.now.clock }
-    {
-        self.progress.clock
-    }
-
-    /// Steps the broker through the events of a file of the journal. The files must be read in the
-    /// order in which they were begun.
+    /// Steps the broker through the events of a file of the journal.
     ///
     /// A crash may leave a torn end, which is ignored. Errors:
     ///
@@ -108,63 +90,46 @@ impl Recovery {
         Ok(Recovery { alloc, progress })
     }
 
-    /// Ends each connection, and returns the broker with a journal that has no entry yet. The ends
-    /// are pending: the first commit records them.
+    /// Ends each connection, and returns the broker. Its clock is the latest time that the events
+    /// report, in milliseconds: the clock of the process must continue from it.
     ///
     /// Errors:
     ///
     /// - `Refused` if the broker refuses an end.
     /// - `Memory` if an allocation fails, or if a reply reports that one failed.
-    /// - `TooMany` if the ends have 2^32 bytes or more.
-    pub fn resume<D: Disk + Drop>(self, journal: Journal<D>) -> Result<Durable<D>, RecoverError>
-        requires settled { IsSettled D.seen D.may_leave journal }
-        requires begun { D.seen journal.disk ≡ at_rest [] }
-        ensures base { IfOk result (λ durable. durable.base ≡ self) }
-        ensures disk { IfOk result (λ durable. durable.disk ≡ journal.disk) }
-        ensures ends { IfOk result (λ durable. AreEnds durable.pending) }
-        ensures hub { IfOk result (λ durable. Replays self durable.pending durable.hub) }
-        ensures none { IfOk result (λ durable. durable.hub.connections ≡ []) }
-        ensures sound { IfOk result (λ durable. durable.condition ≡ Sound) }
+    pub fn end_all(self) -> Result<Hub, RecoverError>
+        ensures ended { IfOk result (λ hub. HasEnded self hub) }
+        ensures clock { IfOk result (λ hub. hub.clock ≡ self.clock) }
+        ensures none { IfOk result (λ hub. hub.connections ≡ []) }
     {
-        let Recovery { alloc, progress } = self;
-        let Progress { hub, opened, .. } = progress;
-        let mut durable = Durable::new(alloc, hub, journal);
-        end_all(&mut durable, opened.as_slice())?;
-        Ok(durable)
+        let Recovery { progress, .. } = self;
+        let Progress { hub, opened } = progress;
+        let mut hub = hub;
+        end_each(&mut hub, opened.as_slice())?;
+        Ok(hub)
     }
 }
 
 // Ends a connection, if the broker knows it. On `Err` the broker must be dropped.
-fn end_one<D: Disk>(durable: &mut Durable<D>, conn: Conn) -> Result<(), RecoverError>
-    requires { durable.old.condition ≡ Sound }
-    ensures ended { OnOk result (HasEnded durable.old durable.new) }
+fn end_one(hub: &mut Hub, conn: Conn) -> Result<(), RecoverError>
+    ensures ended { OnOk result (HasEnded hub.old hub.new) }
     ensures known { OnOk result ((others : List Conn)
-        → AreKnownAmong (conn ∷ others) durable.old.hub → AreKnownAmong others durable.new.hub) }
+        → AreKnownAmong (conn ∷ others) hub.old → AreKnownAmong others hub.new) }
 {
-    if !durable.hub().knows(conn) {
+    if !hub.knows(conn) {
         return Ok(());
     }
-    match durable.step(&HubEvent::Ended(conn)) {
-        Ok(_) => {}
-        Err(StepRefusal::Hub(HubRefusal::Memory)) => return Err(RecoverError::Memory),
-        Err(StepRefusal::Hub(why)) => return Err(RecoverError::Refused(why)),
-        Err(StepRefusal::EntryFull | StepRefusal::Broken) => return Err(RecoverError::TooMany),
-    }
-    match durable.condition() {
-        Condition::Sound => Ok(()),
-        Condition::OutOfMemory | Condition::Broken => Err(RecoverError::Memory),
-    }
+    replay_on(hub, &HubEvent::Ended(conn))
 }
 
 // Ends the connections among these that the broker knows. On `Err` the broker must be dropped.
-fn end_all<D: Disk>(durable: &mut Durable<D>, conns: &[Conn]) -> Result<(), RecoverError>
-    requires sound { durable.old.condition ≡ Sound }
-    requires known { AreKnownAmong conns.now durable.old.hub }
-    ensures ended { OnOk result (HasEnded durable.old durable.new) }
-    ensures none { OnOk result (AreKnownAmong [] durable.new.hub) }
+fn end_each(hub: &mut Hub, conns: &[Conn]) -> Result<(), RecoverError>
+    requires { AreKnownAmong conns.now hub.old }
+    ensures ended { OnOk result (HasEnded hub.old hub.new) }
+    ensures none { OnOk result (AreKnownAmong [] hub.new) }
 {
     for conn in conns {
-        end_one(durable, *conn)?;
+        end_one(hub, *conn)?;
     }
     Ok(())
 }

@@ -11,9 +11,9 @@ use Rattle.mq_route.specs.declared.connection_state.ConnectionState.TheVariants.
 use Rattle.mq_route.specs.declared.event.HubEvent.{HubEvent}
 use Rattle.mq_route.specs.declared.event.HubEvent.TheVariants.{Opened, Bytes, Ended, Tick, Collect}
 use Rattle.mq_route.specs.declared.reply.HubReply.{HubReply}
-use Rattle.mq_route.specs.Clients.{ClientLaws}
+use Rattle.mq_route.specs.Begun.{BegunLaws, MayBegin}
 use Rattle.mq_route.specs.Hub.{HubState, new_hub, is_for, stage_of, waiting_on}
-use Rattle.mq_route.specs.Laws.{OutputLaws, places_on}
+use Rattle.mq_route.specs.Laws.{places_on}
 use Rattle.mq_route.specs.Routed.{same_conn, seen}
 use Rattle.mq_route.specs.Runs.{Episode, Follows, acts_of, is_on}
 use Rattle.mq_route.specs.Step.{HubStep}
@@ -89,7 +89,7 @@ copy_somewhere k h (act ∷ log) e = copy_here k h act log (places_on k h act) r
 
 -- ---- a step
 
-pub step_watched : ClientLaws → OutputLaws → (most : ℕ) (old new : ServedState) (event : HubEvent) (reply : HubReply) (f f1 : ℕ → Option ℕ) (m o m1 o1 m2 o2 : List Bool)
+pub step_watched : BegunLaws → (most : ℕ) (old new : ServedState) (event : HubEvent) (reply : HubReply) (f f1 : ℕ → Option ℕ) (m o m1 o1 m2 o2 : List Bool)
     → new.base ≡ old.base → IsReached old.base → IsServed old → HubStep old.hub event reply new.hub → IsNoted reply.acts f m o f1 m1 o1
     → length new.lines ≤ length m → length new.lines ≤ length o → length m2 ≡ length m1 → length o2 ≡ length o1 → AllIn m1 m2 → AllIn o1 o2
     → ((c p : ℕ) → exists_at p new.lines ≡ true → is_for c (stage_of (name_at p) old.hub.connections) ≡ true → (f c ≡ Some p) ⊎ (is_in p o ≡ true))
@@ -97,7 +97,7 @@ pub step_watched : ClientLaws → OutputLaws → (most : ℕ) (old new : ServedS
     → (output_at p new.lines ≡ output_at p old.lines) × (IsWrittenAt most p old ⊎ ((is_in p m ≡ true) ⊎ (is_in p o ≡ true))))
     → ((p : ℕ) → exists_at p new.lines ≡ true → is_on (name_at p) event ≡ true → IsWrittenAt most p new ⊎ ((is_in p m2 ≡ true) ⊎ (is_in p o2 ≡ true)))
     → IsWatched most new f1 m2 o2
-step_watched clients outputs most old new event reply f f1 m o m1 o1 m2 o2 based reached served step noted wm wo lm lo gm go_ was before own = record {
+step_watched laws most old new event reply f f1 m o m1 o1 m2 o2 based reached served step noted wm wo lm lo gm go_ was before own = record {
   reached = subst IsReached (sym based) reached;
   marked_places = subst (λ (n : ℕ). length new.lines ≤ n) (sym (lm ∙ noted.marked_places)) wm;
   over_places = subst (λ (n : ℕ). length new.lines ≤ n) (sym (lo ∙ noted.over_places)) wo;
@@ -111,18 +111,18 @@ step_watched clients outputs most old new event reply f f1 m o m1 o1 m2 o2 based
     es : List Episode
     es = reached.before ++ served.made
 
-    runs : Follows (new_hub reached.config) es old.hub
-    runs = follows_both (new_hub reached.config) old.base old.hub reached.before served.made reached.follows served.follows
+    runs : Follows reached.begun es old.hub
+    runs = follows_both reached.begun old.base old.hub reached.before served.made reached.follows served.follows
 
-    runs_on : Follows (new_hub reached.config) (es ++ e ∷ []) new.hub
-    runs_on = follows_last (new_hub reached.config) old.hub new.hub es e runs step.right step.does step.after
+    runs_on : Follows reached.begun (es ++ e ∷ []) new.hub
+    runs_on = follows_last reached.begun old.hub new.hub es e runs step.right step.does step.after
 
     known : (c p : ℕ) → exists_at p new.lines ≡ true → is_for c (stage_of (name_at p) new.hub.connections) ≡ true → (f1 c ≡ Some p) ⊎ (is_in p o2 ≡ true)
     known c p there here =
         let within : p < length o = let below = exists_within p new.lines there in omega arith in
-        let up = (clients.connected_is_seen reached.config (es ++ e ∷ []) new.hub runs_on c (name_at p)).0 here in
+        let up = (laws.connected_is_seen reached.begun reached.may_begin (es ++ e ∷ []) new.hub runs_on c (name_at p)).0 here in
         let up_last : (seen c (acts_of es ++ reply.acts)).up ≡ Some (name_at p) = ap (λ (l : List Act). (seen c l).up) (sym (acts_last es e)) ∙ up in
-        let first : AreNotedAt p (acts_of es) f o = λ c up. was c p there ((clients.connected_is_seen reached.config es old.hub runs c (name_at p)).1 up) in
+        let first : AreNotedAt p (acts_of es) f o = λ c up. was c p there ((laws.connected_is_seen reached.begun reached.may_begin es old.hub runs c (name_at p)).1 up) in
         ⊎_elim (λ at. inl at) (λ over. inr (go_ p over)) (noted.noted p within (acts_of es) first c up_last)
 
     marked_later : (p : ℕ) → is_in p m ≡ true → is_in p m2 ≡ true
@@ -140,7 +140,7 @@ step_watched clients outputs most old new event reply f f1 m o m1 o1 m2 o2 based
         ⊎_elim (λ at. inr (inl (gm p (noted.marks c.0 p within at c.1.1)))) (λ over. inr (inr (over_later p over))) (was c.0 p there c.1.0)
     elsewhere p there other false none =
         let same : waiting_on (name_at p) new.hub.connections ≡ waiting_on (name_at p) old.hub.connections =
-        outputs.others_unchanged reached.config es old.hub runs event reply new.hub step (name_at p) other none in
+        laws.others_unchanged reached.begun reached.may_begin es old.hub runs event reply new.hub step (name_at p) other none in
         let pair = before p there other in
         let still : IsWrittenAt most p old → IsWrittenAt most p new =
         λ written. subst (λ (x : Option Output). IfSome x (IsWritten most (waiting_on (name_at p) new.hub.connections))) (sym pair.0)
@@ -192,8 +192,11 @@ still_watched most old new f m o m2 o2 q w based still ln lm lo grows marks othe
         (subst (λ (h : HubState). IfSome (output_at p old.lines) (IsWritten most (waiting_on (name_at p) h.connections))) (sym still) x)))
         (λ rest. inr (⊎_elim (λ x. inl (marks p (apart p e) x)) (λ x. inr (grows p x)) rest)) (w.written p)
 
-pub new_reached : (config : HubConfig) → IsReached (new_hub config)
-new_reached config = record { config = config; before = []; follows = refl }
+begun_reached : (hub : HubState) → MayBegin hub → IsReached hub
+begun_reached hub may = record { begun = hub; may_begin = may; before = []; follows = refl }
+
+pub new_reached : BegunLaws → (config : HubConfig) → IsReached (new_hub config)
+new_reached laws config = begun_reached (new_hub config) (laws.new config)
 
 pub new_watched : (most : ℕ) (h : HubState) (committed : Bool) (calls : Option (List Call)) (f : ℕ → Option ℕ) → IsReached h → IsWatched most (served_state h h [] committed calls) f [] []
 new_watched most h committed calls f reached = record {
@@ -246,21 +249,21 @@ exists_before old new q others here p = go (eqb p q) refl
     go true e = let same : p ≡ q = eqb-true p q e in subst (λ (n : ℕ). exists_at n new ≡ exists_at n old) (sym same) here
     go false e = ap is_some (others p (λ same. true≢false (sym (eq-eqb p q same) ∙ e)))
 
-pub tick_watched : ClientLaws → OutputLaws → (most : ℕ) (old new : ServedState) (now : ℕ) (reply : HubReply) (f f1 : ℕ → Option ℕ) (m o m1 o1 : List Bool)
+pub tick_watched : BegunLaws → (most : ℕ) (old new : ServedState) (now : ℕ) (reply : HubReply) (f f1 : ℕ → Option ℕ) (m o m1 o1 : List Bool)
     → IsWatched most old f m o → IsServed old → new.base ≡ old.base → new.lines ≡ old.lines → HubStep old.hub (Tick now) reply new.hub → IsNoted reply.acts f m o f1 m1 o1 → IsWatched most new f1 m1 o1
-tick_watched clients outputs most old new now reply f f1 m o m1 o1 w served based same step noted =
-    step_watched clients outputs most old new (Tick now) reply f f1 m o m1 o1 m1 o1 based w.reached served step noted
+tick_watched laws most old new now reply f f1 m o m1 o1 w served based same step noted =
+    step_watched laws most old new (Tick now) reply f f1 m o m1 o1 m1 o1 based w.reached served step noted
     (subst (λ (l : List (Option Line)). length l ≤ length m) (sym same) w.marked_places) (subst (λ (l : List (Option Line)). length l ≤ length o) (sym same) w.over_places)
     refl refl (same_all m1) (same_all o1)
     (λ c p there here. w.noted c p (sym (ap (exists_at p) same) ∙ there) here)
     (λ p there other. (ap (output_at p) same, w.written p))
     (λ p there on. absurd (true≢false (sym on)))
 
-pub read_watched : ClientLaws → OutputLaws → (most : ℕ) (old new : ServedState) (q : ℕ) (bytes : List ℕ) (reply : HubReply) (f f1 : ℕ → Option ℕ) (m o m1 o1 : List Bool)
+pub read_watched : BegunLaws → (most : ℕ) (old new : ServedState) (q : ℕ) (bytes : List ℕ) (reply : HubReply) (f f1 : ℕ → Option ℕ) (m o m1 o1 : List Bool)
     → IsWatched most old f m o → IsServed old → IsSame old new → OthersStay q old.lines new.lines → exists_at q new.lines ≡ exists_at q old.lines
     → HubStep old.hub (Bytes (name_at q) bytes) reply new.hub → IsNoted reply.acts f m o f1 m1 o1 → IsWatched most new f1 (set m1 q true) o1
-read_watched clients outputs most old new q bytes reply f f1 m o m1 o1 w served same others here step noted =
-    step_watched clients outputs most old new (Bytes (name_at q) bytes) reply f f1 m o m1 o1 (set m1 q true) o1 same.base w.reached served step noted
+read_watched laws most old new q bytes reply f f1 m o m1 o1 w served same others here step noted =
+    step_watched laws most old new (Bytes (name_at q) bytes) reply f f1 m o m1 o1 (set m1 q true) o1 same.base w.reached served step noted
     within (subst (λ (n : ℕ). n ≤ length o) (sym same.places) w.over_places)
     (length-set m1 q true) refl (put_all m1 q) (same_all o1)
     (λ c p there here. w.noted c p (sym (before p) ∙ there) here)
@@ -277,11 +280,11 @@ read_watched clients outputs most old new q bytes reply f f1 m o m1 o1 w served 
     within : length new.lines ≤ length m
     within = subst (λ (n : ℕ). n ≤ length m) (sym same.places) w.marked_places
 
-pub open_watched : ClientLaws → OutputLaws → (most : ℕ) (old new : ServedState) (q : ℕ) (line : Line) (reply : HubReply) (f f1 : ℕ → Option ℕ) (m o m1 o1 : List Bool)
+pub open_watched : BegunLaws → (most : ℕ) (old new : ServedState) (q : ℕ) (line : Line) (reply : HubReply) (f f1 : ℕ → Option ℕ) (m o m1 o1 : List Bool)
     → IsWatched most old f m o → IsServed old → IsSame old new → new.lines ≡ set old.lines q (Some line)
     → HubStep old.hub (Opened (name_at q)) reply new.hub → IsNoted reply.acts f m o f1 m1 o1 → IsWatched most new f1 (set m1 q true) o1
-open_watched clients outputs most old new q line reply f f1 m o m1 o1 w served same lines step noted =
-    step_watched clients outputs most old new (Opened (name_at q)) reply f f1 m o m1 o1 (set m1 q true) o1 same.base w.reached served step noted
+open_watched laws most old new q line reply f f1 m o m1 o1 w served same lines step noted =
+    step_watched laws most old new (Opened (name_at q)) reply f f1 m o m1 o1 (set m1 q true) o1 same.base w.reached served step noted
     within (subst (λ (n : ℕ). n ≤ length o) (sym same.places) w.over_places)
     (length-set m1 q true) refl (put_all m1 q) (same_all o1) was
     (λ p there other. (others p (elsewhere_is p q other), w.written p))
@@ -312,11 +315,11 @@ open_watched clients outputs most old new q line reply f f1 m o m1 o1 w served s
             w.noted c p (sym (exists_same old.lines new.lines p (others p apart)) ∙ there) here
 
 -- a place that is over is taken out of the set, and its connection ended
-pub end_watched : ClientLaws → OutputLaws → (most : ℕ) (old new : ServedState) (q : ℕ) (reply : HubReply) (f f1 : ℕ → Option ℕ) (m o m1 o1 : List Bool)
+pub end_watched : BegunLaws → (most : ℕ) (old new : ServedState) (q : ℕ) (reply : HubReply) (f f1 : ℕ → Option ℕ) (m o m1 o1 : List Bool)
     → IsWatched most old f m o → IsServed old → IsSame old new → OthersStay q old.lines new.lines → output_at q new.lines ≡ None
     → HubStep old.hub (Ended (name_at q)) reply new.hub → IsNoted reply.acts f m (set o q false) f1 m1 o1 → IsWatched most new f1 m1 o1
-end_watched clients outputs most old new q reply f f1 m o m1 o1 w served same others gone step noted =
-    step_watched clients outputs most old new (Ended (name_at q)) reply f f1 m (set o q false) m1 o1 m1 o1 same.base w.reached served step noted
+end_watched laws most old new q reply f f1 m o m1 o1 w served same others gone step noted =
+    step_watched laws most old new (Ended (name_at q)) reply f f1 m (set o q false) m1 o1 m1 o1 same.base w.reached served step noted
     (subst (λ (n : ℕ). n ≤ length m) (sym same.places) w.marked_places)
     (subst (λ (n : ℕ). length new.lines ≤ n) (sym (length-set o q false)) (subst (λ (n : ℕ). n ≤ length o) (sym same.places) w.over_places))
     refl refl (same_all m1) (same_all o1)
@@ -368,14 +371,14 @@ kept_watched most s q f m o w =
             put_all (set o q false) q p (apart_in o q p apart x)
 
 -- a place that is marked is taken out of the set, and its output written; or it is over
-pub give_watched : ClientLaws → OutputLaws → (most : ℕ) (old new : ServedState) (q : ℕ) (f : ℕ → Option ℕ) (m o o2 : List Bool) → IsWatched most old f m o → IsServed old → IsSame old new
+pub give_watched : BegunLaws → (most : ℕ) (old new : ServedState) (q : ℕ) (f : ℕ → Option ℕ) (m o o2 : List Bool) → IsWatched most old f m o → IsServed old → IsSame old new
     → MayCollect q old.hub new.hub → OthersStay q old.lines new.lines → exists_at q new.lines ≡ exists_at q old.lines → length o2 ≡ length o → AllIn o o2
     → (exists_at q new.lines ≡ true → IsWrittenAt most q new ⊎ (is_in q o2 ≡ true)) → IsWatched most new f (set m q false) o2
-give_watched clients outputs most old new q f m o o2 w served same (inl still) others here lo grows own =
+give_watched laws most old new q f m o o2 w served same (inl still) others here lo grows own =
     still_watched most old new f m o (set m q false) o2 q w same.base still same.places (length-set m q false) lo grows
     (λ p apart x. apart_in m q p apart x) others here (λ there. ⊎_elim (λ x. inl x) (λ x. inr (inr x)) (own there))
-give_watched clients outputs most old new q f m o o2 w served same (inr collected) others here lo grows own =
-    step_watched clients outputs most old new (Collect (name_at q)) collected.0 f f (set m q false) o (set m q false) o (set m q false) o2 same.base w.reached served collected.1 noted
+give_watched laws most old new q f m o o2 w served same (inr collected) others here lo grows own =
+    step_watched laws most old new (Collect (name_at q)) collected.0 f f (set m q false) o (set m q false) o (set m q false) o2 same.base w.reached served collected.1 noted
     (subst (λ (n : ℕ). length new.lines ≤ n) (sym (length-set m q false)) (subst (λ (n : ℕ). n ≤ length m) (sym same.places) w.marked_places))
     (subst (λ (n : ℕ). n ≤ length o) (sym same.places) w.over_places)
     refl lo (same_all (set m q false)) grows

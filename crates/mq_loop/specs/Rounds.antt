@@ -3,10 +3,10 @@ use Rattle.std.specs.Prelude.{◌≡◌, ◌⊎◌, ℕ, suc, ◌+◌, ◌*◌, 
 use Rattle.std.specs.List.{count_by, list_any}
 use Rattle.mq_route.specs.declared.act.Act.{Act}
 use Rattle.mq_route.specs.declared.act.Act.TheVariants as acts
-use Rattle.mq_route.specs.declared.config.HubConfig.{HubConfig}
 use Rattle.mq_route.specs.declared.event.HubEvent.TheVariants.{Bytes, Collect}
 use Rattle.mq_route.specs.declared.reply.HubReply.{HubReply}
-use Rattle.mq_route.specs.Hub.{HubState, new_hub, is_for, stage_of, waiting_on}
+use Rattle.mq_route.specs.Begun.{MayBegin}
+use Rattle.mq_route.specs.Hub.{HubState, is_for, stage_of, waiting_on}
 use Rattle.mq_route.specs.Routed.{seen}
 use Rattle.mq_route.specs.Runs.{Episode, Follows}
 use Rattle.mq_route.specs.Step.{HubStep}
@@ -22,11 +22,13 @@ use Rattle.mq_loop.specs.Places.{count_in, is_in}
 
 -- ---- brokers
 
--- The broker was reached by steps from a new one.
+-- The broker was reached by steps from one with which a run may begin: a new one, or one that was
+-- restored after a restart (3.1.2.4).
 pub record IsReached (hub : HubState) : Type 0 where
-  pub config : HubConfig
+  pub begun : HubState
+  pub may_begin : MayBegin begun
   pub before : List Episode
-  pub follows : Follows (new_hub config) before hub
+  pub follows : Follows begun before hub
 
 -- ---- output
 

@@ -17,7 +17,7 @@ use crate::turns::{Holds, Turn};
 use crate::watched::Watched;
 use mq_decode::Limits;
 use mq_hub::Hub;
-use mq_route::HubConfig;
+use mq_route::{HubConfig, begun_laws};
 use std::alloc::{AllocError, Global};
 use std::marker::Model;
 
@@ -102,12 +102,13 @@ impl<S: Socket + Drop, O: Observer + Drop> EventLoop<Hub, S, O> {
         requires window { IfSome config.window (λ window. 0 < window) }
         ensures { result ≡ new_loop (new_hub config) true None limits.most_owed }
     {
+        begun_laws();
         EventLoop::over(alloc, Hub::new(alloc, config), limits, observer)
     }
 }
 
 impl<B: Broker + Drop, S: Socket + Drop, O: Observer + Drop> EventLoop<B, S, O> {
-    /// A loop over a broker that made steps before and knows no connection.
+    /// A loop over a broker that made steps before, or was restored, and knows no connection.
     pub fn over(alloc: Global, broker: B, limits: LoopLimits, observer: O) -> EventLoop<B, S, O>
         requires { IsReached (B.state broker) }
         ensures { result ≡ new_loop (B.state broker) (B.committed broker) (B.calls broker) limits.most_owed }

@@ -14,7 +14,7 @@ use crate::report::Report;
 use crate::served::{Given, Heard, Served};
 use crate::socket::Socket;
 use mq_hub::Hub;
-use mq_route::{HubReply, client_laws, output_laws};
+use mq_route::{HubReply, begun_laws};
 use std::alloc::{AllocError, Global};
 use std::marker::Model;
 
@@ -107,8 +107,7 @@ impl<B: Broker + Drop, S: Socket + Drop> Watched<B, S> {
         ensures refused { result ≡ false → self.new ≡ self.old }
     {
         self.served.laws();
-        client_laws();
-        output_laws();
+        begun_laws();
         match self.served.open(place, socket) {
             Ok(reply) => {
                 self.notes.note(reply.acts.as_slice());
@@ -128,8 +127,7 @@ impl<B: Broker + Drop, S: Socket + Drop> Watched<B, S> {
         ensures calls { Quietly self.old.served.calls self.new.served.calls }
     {
         self.served.laws();
-        client_laws();
-        output_laws();
+        begun_laws();
         let Ok(reply) = self.served.tick(now) else {
             return None;
         };
@@ -143,8 +141,7 @@ impl<B: Broker + Drop, S: Socket + Drop> Watched<B, S> {
         ensures calls { Reads place self.old.served.calls self.new.served.calls }
     {
         self.served.laws();
-        client_laws();
-        output_laws();
+        begun_laws();
         let heard = self.served.read(place, buffer);
         match &heard {
             Heard::Step(_, reply) => {
@@ -261,8 +258,7 @@ impl<B: Broker + Drop, S: Socket + Drop> Watched<B, S> {
         ensures base { self.new.served.base ≡ self.old.served.base }
     {
         self.served.laws();
-        client_laws();
-        output_laws();
+        begun_laws();
         let Some(place) = self.notes.over.pop() else {
             return None;
         };
@@ -307,8 +303,7 @@ impl<B: Broker + Drop, S: Socket + Drop> Watched<B, S> {
         ensures base { self.new.served.base ≡ self.old.served.base }
     {
         self.served.laws();
-        client_laws();
-        output_laws();
+        begun_laws();
         let Some(place) = self.notes.marked.pop() else {
             return false;
         };

@@ -1,6 +1,6 @@
 //! A broker whose disk stops after a number of calls, and the broker that is recovered from it.
 
-ghost use Rattle.std.specs.Prelude.{◌≡◌, ◌<◌, [], true, None, IfOk};
+ghost use Rattle.std.specs.Prelude.{◌≡◌, ◌<◌, [], true, None, IfOk, OnOk};
 ghost use Rattle.mq_record.specs.Encoding.{is_recorded};
 
 use bytes::Bytes;
@@ -45,8 +45,8 @@ const DELIVERED: [&str; 4] = [
 // The output to `home` if its session was not recorded.
 const NEW_SESSION: &str = "20020000";
 
-// The calls of the disk for all rounds: two at the beginning, and four for each commit.
-const CALLS: u64 = 2 + 4 * 9;
+// The number of rounds. The disk has four calls for each commit, and two for each new file.
+const ROUNDS: u64 = 9;
 
 fn config() -> Result<HubConfig, Fail>
     ensures capacity { IfOk result (λ c. 0 < c.capacity) }
@@ -77,55 +77,90 @@ fn bytes_on(alloc: Global, conn: Conn, hex: &str) -> Result<HubEvent, Fail>
     Ok(HubEvent::Bytes(conn, Bytes::copy_from_slice(alloc, bytes.as_slice())?))
 }
 
+// A broker, and the snapshot in its folder. Each commit begins a new file, or none does.
+#[derive(Drop)]
+struct Folder {
+    durable: Durable<TestDisk>,
+    snapshot: Option<Vec<u8>>,
+    begins_files: bool,
+}
+
+// Begins a new file, which takes the calls that are left, and then replaces the snapshot.
+fn begin_next(alloc: Global, folder: &mut Folder) -> Result<Result<(), CommitError>, Fail>
+    requires { folder.old.durable.pending ≡ [] }
+    ensures { folder.new.durable.pending ≡ [] }
+{
+    let snapshot = folder.durable.hub().save()?;
+    let calls = folder.durable.disk().calls_left();
+    let disk = FreezingDisk::new(MemoryDisk::new(alloc, Vec::new(alloc)), calls);
+    match folder.durable.continue_in(disk) {
+        Ok(_) => {
+            folder.snapshot = Some(snapshot);
+            Ok(Ok(()))
+        }
+        Err(error) => Ok(Err(error)),
+    }
+}
+
+// Commits, and then begins a new file if each commit does.
+fn commit(alloc: Global, folder: &mut Folder) -> Result<Result<(), CommitError>, Fail>
+    ensures { IfOk result (λ made. OnOk made (folder.new.durable.pending ≡ [])) }
+{
+    match folder.durable.commit() {
+        Ok(()) if folder.begins_files => begin_next(alloc, folder),
+        made => Ok(made),
+    }
+}
+
 // Makes a round with one event, and returns the output of a connection. Returns `None` if the disk
 // has stopped.
 fn round(
     alloc: Global,
-    durable: &mut Durable<TestDisk>,
+    folder: &mut Folder,
     event: &HubEvent,
     conn: Conn,
 ) -> Result<Option<String>, Fail>
     requires { is_recorded event.now ≡ true }
 {
-    let _ = durable.step(event)?;
-    match durable.commit() {
+    let _ = folder.durable.step(event)?;
+    match commit(alloc, folder)? {
         Ok(()) => {}
         Err(CommitError::Disk(DiskError::Failed)) => return Ok(None),
         Err(error) => return Err(error.into()),
     }
-    match durable.collect(conn) {
+    match folder.durable.collect(conn) {
         Ok(reply) => Ok(Some(hex::encode(alloc, reply.output.as_slice())?)),
         Err(_) => Ok(Some(String::new(alloc))),
     }
 }
 
 // The client `home` subscribes and leaves. Returns whether the disk has not stopped.
-fn subscribe(alloc: Global, durable: &mut Durable<TestDisk>) -> Result<bool, Fail> {
-    if round(alloc, durable, &HubEvent::Opened(HOME), HOME)?.is_none() {
+fn subscribe(alloc: Global, folder: &mut Folder) -> Result<bool, Fail> {
+    if round(alloc, folder, &HubEvent::Opened(HOME), HOME)?.is_none() {
         return Ok(false);
     }
     for hex in [CONNECT_HOME, SUBSCRIBE] {
         let event = bytes_on(alloc, HOME, hex)?;
-        if round(alloc, durable, &event, HOME)?.is_none() {
+        if round(alloc, folder, &event, HOME)?.is_none() {
             return Ok(false);
         }
     }
-    Ok(round(alloc, durable, &HubEvent::Ended(HOME), HOME)?.is_some())
+    Ok(round(alloc, folder, &HubEvent::Ended(HOME), HOME)?.is_some())
 }
 
 // Publishes the messages, and returns the number of those that the broker acknowledged.
-fn publish(alloc: Global, durable: &mut Durable<TestDisk>) -> Result<usize, Fail> {
-    if round(alloc, durable, &HubEvent::Opened(PUBLISHER), PUBLISHER)?.is_none() {
+fn publish(alloc: Global, folder: &mut Folder) -> Result<usize, Fail> {
+    if round(alloc, folder, &HubEvent::Opened(PUBLISHER), PUBLISHER)?.is_none() {
         return Ok(0);
     }
     let event = bytes_on(alloc, PUBLISHER, CONNECT_PUBLISHER)?;
-    if round(alloc, durable, &event, PUBLISHER)?.is_none() {
+    if round(alloc, folder, &event, PUBLISHER)?.is_none() {
         return Ok(0);
     }
     let mut acknowledged = 0usize;
     for hex in PUBLISH {
         let event = bytes_on(alloc, PUBLISHER, hex)?;
-        let Some(output) = round(alloc, durable, &event, PUBLISHER)? else {
+        let Some(output) = round(alloc, folder, &event, PUBLISHER)? else {
             break;
         };
         if output.as_str().starts_with("4002") {
@@ -135,72 +170,102 @@ fn publish(alloc: Global, durable: &mut Durable<TestDisk>) -> Result<usize, Fail
     Ok(acknowledged)
 }
 
-// A file that a crash left, the content before the last write, and the number of messages that
-// were acknowledged.
+// What a crash left: the snapshot, if there is one, and the file, with its content before the last
+// write if no sync followed it. Also the number of messages that were acknowledged.
 #[derive(Drop)]
 struct Crash {
+    snapshot: Option<Vec<u8>>,
     file: Vec<u8>,
-    before: Vec<u8>,
+    before: Option<Vec<u8>>,
     acknowledged: usize,
 }
 
-fn crash_of(alloc: Global, disk: &TestDisk, acknowledged: usize) -> Result<Crash, AllocError> {
+// The crash after a number of calls. If it is odd, the last call was a write. That was a write of
+// this file, if the file had no call left.
+fn crash_of(
+    alloc: Global,
+    disk: &TestDisk,
+    calls: u64,
+    acknowledged: usize,
+) -> Result<Crash, AllocError> {
     let before = match disk.disk().past() {
-        [.., before] => before.as_slice().to_vec(alloc)?,
-        _ => Vec::new(alloc),
+        [.., before] if calls % 2 == 1 && disk.calls_left() == 0 => Some(
+            before.as_slice().to_vec(alloc)?,
+        ),
+        _ => None,
     };
     Ok(Crash {
+        snapshot: None,
         file: disk.disk().bytes().to_vec(alloc)?,
         before,
         acknowledged,
     })
 }
 
-// The rounds of both clients, and what the disk holds then.
-fn crash_in(alloc: Global, durable: &mut Durable<TestDisk>) -> Result<Crash, Fail> {
-    let acknowledged = if subscribe(alloc, durable)? {
-        publish(alloc, durable)?
+// The rounds of both clients, and what the folder has then.
+fn crash_in(alloc: Global, folder: &mut Folder, calls: u64) -> Result<Crash, Fail> {
+    let acknowledged = if subscribe(alloc, folder)? {
+        publish(alloc, folder)?
     } else {
         0
     };
-    Ok(crash_of(alloc, durable.disk(), acknowledged)?)
+    let mut crash = crash_of(alloc, folder.durable.disk(), calls, acknowledged)?;
+    crash.snapshot = folder.snapshot.take();
+    Ok(crash)
 }
 
 // The crash after a number of calls of the disk.
-fn crash_after(alloc: Global, calls: u64) -> Result<Crash, Fail> {
+fn crash_after(alloc: Global, calls: u64, begins_files: bool) -> Result<Crash, Fail> {
     let mut disk = FreezingDisk::new(MemoryDisk::new(alloc, Vec::new(alloc)), calls);
     match begin(&mut disk) {
         Ok(()) => {}
-        Err(DiskError::Failed) => return Ok(crash_of(alloc, &disk, 0)?),
+        Err(DiskError::Failed) => return Ok(crash_of(alloc, &disk, calls, 0)?),
         Err(error) => return Err(error.into()),
     }
-    let mut durable = Durable::new(alloc, Hub::new(alloc, config()?), Journal::new(disk));
-    let crash = crash_in(alloc, &mut durable);
-    drop(durable);
+    let mut folder = Folder {
+        durable: Durable::new(alloc, Hub::new(alloc, config()?), Journal::new(disk)),
+        snapshot: None,
+        begins_files,
+    };
+    let crash = crash_in(alloc, &mut folder, calls);
+    drop(folder);
     crash
 }
 
 // The output to `home` when it connects.
-fn output_at(alloc: Global, durable: &mut Durable<TestDisk>) -> Result<String, Fail> {
-    let _ = durable.step(&HubEvent::Opened(HOME))?;
+fn output_at(alloc: Global, folder: &mut Folder) -> Result<String, Fail> {
+    let _ = folder.durable.step(&HubEvent::Opened(HOME))?;
     let event = bytes_on(alloc, HOME, CONNECT_HOME)?;
-    Ok(round(alloc, durable, &event, HOME)?.ok_or("the disk stopped")?)
+    Ok(round(alloc, folder, &event, HOME)?.ok_or("the disk stopped")?)
 }
 
 // The output to `home` when it connects to a recovered broker.
 fn output_of(alloc: Global, recovery: Recovery) -> Result<String, Fail> {
     let mut disk = FreezingDisk::new(MemoryDisk::new(alloc, Vec::new(alloc)), 100);
     begin(&mut disk)?;
-    let mut durable = recovery.resume(Journal::new(disk))?;
-    let output = output_at(alloc, &mut durable);
-    drop(durable);
+    let mut folder = Folder {
+        durable: Durable::new(alloc, recovery.end_all()?, Journal::new(disk)),
+        snapshot: None,
+        begins_files: false,
+    };
+    let output = output_at(alloc, &mut folder);
+    drop(folder);
     output
 }
 
+// The broker of a snapshot, or a new one.
+fn hub_of(alloc: Global, snapshot: &Option<Vec<u8>>) -> Result<Hub, Fail> {
+    match snapshot {
+        Some(snapshot) => Ok(Hub::load(alloc, config()?, snapshot.as_slice())?),
+        None => Ok(Hub::new(alloc, config()?)),
+    }
+}
+
 // Everything that was acknowledged is there, and at most one message more.
-fn check(rt: &impl Abort, alloc: Global, file: &[u8], acknowledged: usize) -> Result<(), Fail> {
-    let hub = Hub::new(alloc, config()?);
-    let recovery = Recovery::new(alloc, hub).replay(file)?;
+fn check(rt: &impl Abort, alloc: Global, crash: &Crash, file: &[u8]) -> Result<(), Fail> {
+    let acknowledged = crash.acknowledged;
+    let hub = hub_of(alloc, &crash.snapshot)?;
+    let recovery = Recovery::of(alloc, hub)?.replay(file)?;
     let output = output_of(alloc, recovery)?;
     let mut holds = acknowledged == 0 && output.as_str() == NEW_SESSION;
     for count in 0..DELIVERED.len() {
@@ -217,13 +282,13 @@ fn check(rt: &impl Abort, alloc: Global, file: &[u8], acknowledged: usize) -> Re
 }
 
 // The content that a crash leaves if `len` bytes of the last write are on the disk.
-fn torn(alloc: Global, crash: &Crash, len: usize) -> Result<Vec<u8>, AllocError> {
+fn torn(alloc: Global, file: &[u8], before: &[u8], len: usize) -> Result<Vec<u8>, AllocError> {
     let mut bytes = Vec::new(alloc);
-    for i in 0..crash.file.len() {
+    for i in 0..file.len() {
         if i < len {
-            bytes.push(crash.file[i])?;
-        } else if i < crash.before.len() {
-            bytes.push(crash.before[i])?;
+            bytes.push(file[i])?;
+        } else if i < before.len() {
+            bytes.push(before[i])?;
         }
     }
     Ok(bytes)
@@ -232,14 +297,17 @@ fn torn(alloc: Global, crash: &Crash, len: usize) -> Result<Vec<u8>, AllocError>
 #[test]
 fn a_stop_after_each_call(rt: HostRuntime) -> Result<(), Fail> {
     let alloc = rt.alloc();
-    for calls in 0..=CALLS {
-        let crash = crash_after(alloc, calls)?;
-        check(&rt, alloc, crash.file.as_slice(), crash.acknowledged)?;
-        // The last call was a write, which no sync followed.
-        if calls % 2 == 1 {
-            for len in 0..crash.file.len() {
-                let bytes = torn(alloc, &crash, len)?;
-                check(&rt, alloc, bytes.as_slice(), crash.acknowledged)?;
+    for (begins_files, calls) in [(false, 2 + 4 * ROUNDS), (true, 2 + (4 + 2) * ROUNDS)] {
+        for calls in 0..=calls {
+            let crash = crash_after(alloc, calls, begins_files)?;
+            let file = crash.file.as_slice();
+            check(&rt, alloc, &crash, file)?;
+            let Some(before) = &crash.before else {
+                continue;
+            };
+            for len in 0..file.len() {
+                let bytes = torn(alloc, file, before.as_slice(), len)?;
+                check(&rt, alloc, &crash, bytes.as_slice())?;
             }
         }
     }
@@ -249,7 +317,7 @@ fn a_stop_after_each_call(rt: HostRuntime) -> Result<(), Fail> {
 // Whether a file is refused as damaged, or gives a broker that had some of the messages.
 fn is_sound(alloc: Global, file: &[u8]) -> Result<bool, Fail> {
     let hub = Hub::new(alloc, config()?);
-    match Recovery::new(alloc, hub).replay(file) {
+    match Recovery::of(alloc, hub)?.replay(file) {
         Ok(recovery) => {
             let output = output_of(alloc, recovery)?;
             Ok(output.as_str() == NEW_SESSION || DELIVERED.contains(&output.as_str()))
@@ -262,7 +330,7 @@ fn is_sound(alloc: Global, file: &[u8]) -> Result<bool, Fail> {
 #[test]
 fn a_cut_and_a_changed_byte_at_each_place(rt: HostRuntime) -> Result<(), Fail> {
     let alloc = rt.alloc();
-    let crash = crash_after(alloc, CALLS)?;
+    let crash = crash_after(alloc, 2 + 4 * ROUNDS, false)?;
     assert_eq!(rt; crash.acknowledged, 3);
     for place in 0..crash.file.len() {
         assert!(rt; is_sound(alloc, &crash.file[..place])?, "cut at {place}");
@@ -305,7 +373,7 @@ fn a_step_for_the_front_of_a_piece(rt: HostRuntime) -> Result<(), Fail> {
     let (first, second, file) = used?;
     assert_eq!(rt; (first, second), (18, 8));
     let hub = Hub::new(alloc, config()?);
-    let recovery = Recovery::new(alloc, hub).replay(file.as_slice())?;
+    let recovery = Recovery::of(alloc, hub)?.replay(file.as_slice())?;
     let output = output_of(alloc, recovery)?;
     assert_eq!(rt; output.as_str(), DELIVERED[0]);
     Ok(())

@@ -1,5 +1,5 @@
 //! Tests of a durable broker and its journal: a stop after each call of the disk, damaged files,
-//! and the bytes of events.
+//! and the bytes of events and snapshots.
 #![tactic(auto)]
 
 #[cfg(test)]
@@ -8,3 +8,5 @@ mod crash;
 mod journal;
 #[cfg(test)]
 mod record;
+#[cfg(test)]
+mod snapshot;

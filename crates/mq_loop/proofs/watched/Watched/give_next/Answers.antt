@@ -13,7 +13,7 @@ invariant_of-self-in-Written g c =
     let q = c.in-Some.place in
     let new = c.give.new.self in
     rw c.in-Some.ensures.some
-    (give_watched c.client_laws.ensures c.output_laws.ensures s.most_owed s.served new q (get nat_eq s.notes.clients) s.notes.marked s.notes.over s.notes.over
+    (give_watched c.begun_laws.ensures s.most_owed s.served new q (get nat_eq s.notes.clients) s.notes.marked s.notes.over s.notes.over
     c.self.invariant c.laws.ensures e.same e.hub e.others e.exists refl (same_all s.notes.over)
     (λ there. inl (written_within s.most_owed (waiting_at q new) (output_at q new.lines) e.given)))
 
@@ -24,7 +24,7 @@ invariant_of-self-then-is_lost g c =
     let q = c.in-Some.place in
     let f = get nat_eq s.notes.clients in
     rw (c.is_lost.ensures.clients, c.is_lost.ensures.marked, c.in-Some.ensures.some, c.put.ensures, c.is_lost.ensures.over)
-    (give_watched c.client_laws.ensures c.output_laws.ensures s.most_owed s.served c.give.new.self q f s.notes.marked s.notes.over (set s.notes.over q true)
+    (give_watched c.begun_laws.ensures s.most_owed s.served c.give.new.self q f s.notes.marked s.notes.over (set s.notes.over q true)
     c.self.invariant c.laws.ensures e.same e.hub e.others e.exists (length-set s.notes.over q true) (put_all s.notes.over q)
     (λ there. inr (put_in s.notes.over q (over_within s.most_owed s.served c.give.new.self q f s.notes.marked s.notes.over c.self.invariant e.same there))))
 
@@ -37,7 +37,7 @@ invariant_of-self-else-is_lost g c =
     let few : c.waiting-bytes.result ≤ s.most_owed = c.is_lost.ensures.within c.if-is_lost.false in
     let within : length (waiting_at q new) ≤ s.most_owed = subst (λ (n : ℕ). n ≤ s.most_owed) c.waiting-bytes.ensures few in
     rw (c.is_lost.ensures.clients, c.is_lost.ensures.marked, c.in-Some.ensures.some, c.is_lost.ensures.over)
-    (give_watched c.client_laws.ensures c.output_laws.ensures s.most_owed s.served new q (get nat_eq s.notes.clients) s.notes.marked s.notes.over s.notes.over
+    (give_watched c.begun_laws.ensures s.most_owed s.served new q (get nat_eq s.notes.clients) s.notes.marked s.notes.over s.notes.over
     c.self.invariant c.laws.ensures e.same e.hub e.others e.exists refl (same_all s.notes.over)
     (λ there. inl (full_within s.most_owed (waiting_at q new) (output_at q new.lines) e.given within)))
 
@@ -48,7 +48,7 @@ invariant_of-self-in-Finished g c =
     let q = c.in-Some.place in
     let f = get nat_eq s.notes.clients in
     rw (c.in-Some.ensures.some, c.put-in-Finished.ensures)
-    (give_watched c.client_laws.ensures c.output_laws.ensures s.most_owed s.served c.give.new.self q f s.notes.marked s.notes.over (set s.notes.over q true)
+    (give_watched c.begun_laws.ensures s.most_owed s.served c.give.new.self q f s.notes.marked s.notes.over (set s.notes.over q true)
     c.self.invariant c.laws.ensures e.same e.hub e.others e.exists (length-set s.notes.over q true) (put_all s.notes.over q)
     (λ there. inr (put_in s.notes.over q (over_within s.most_owed s.served c.give.new.self q f s.notes.marked s.notes.over c.self.invariant e.same there))))
 

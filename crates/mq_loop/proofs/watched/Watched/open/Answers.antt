@@ -20,5 +20,5 @@ invariant_of-self g c =
       finished = false;
     } in
     rw (c.sit.ensures.clients, c.put.ensures, c.sit.ensures.marked, c.sit.ensures.over)
-    (open_watched c.client_laws.ensures c.output_laws.ensures s.most_owed s.served c.open.new.self c.args.place line c.in-Ok.reply (get nat_eq s.notes.clients) (get nat_eq n.clients)
+    (open_watched c.begun_laws.ensures s.most_owed s.served c.open.new.self c.args.place line c.in-Ok.reply (get nat_eq s.notes.clients) (get nat_eq n.clients)
     s.notes.marked s.notes.over n.marked n.over c.self.invariant c.laws.ensures e.same e.line e.step noted)

@@ -10,7 +10,7 @@ invariant_of-self g c =
     let n = c.note.new.self in
     let noted = rw c.as_slice.ensures at c.note.ensures.noted in
     let step = rw c.in-Step.is at e.step in
-    rw c.put.ensures (read_watched c.client_laws.ensures c.output_laws.ensures s.most_owed s.served c.read-heard.new.self c.args.place step.0 c.in-Step.reply (get nat_eq s.notes.clients) (get nat_eq n.clients)
+    rw c.put.ensures (read_watched c.begun_laws.ensures s.most_owed s.served c.read-heard.new.self c.args.place step.0 c.in-Step.reply (get nat_eq s.notes.clients) (get nat_eq n.clients)
     s.notes.marked s.notes.over n.marked n.over c.self.invariant c.laws.ensures e.same e.others e.exists step.1 noted)
 
 pub invariant_of-self-in-Nothing : goal.invariant_of-self-in-Nothing

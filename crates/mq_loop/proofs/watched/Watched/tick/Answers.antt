@@ -9,5 +9,5 @@ invariant_of-self-2 g c =
     let e = c.in-Ok.ensures in
     let n = c.note.new.self in
     let noted = rw c.as_slice.ensures at c.note.ensures.noted in
-    tick_watched c.client_laws.ensures c.output_laws.ensures s.most_owed s.served c.tick.new.self c.args.now c.in-Ok.reply (get nat_eq s.notes.clients) (get nat_eq n.clients)
+    tick_watched c.begun_laws.ensures s.most_owed s.served c.tick.new.self c.args.now c.in-Ok.reply (get nat_eq s.notes.clients) (get nat_eq n.clients)
     s.notes.marked s.notes.over n.marked n.over c.self.invariant c.laws.ensures e.base e.lines e.step noted
