@@ -8,11 +8,10 @@ use Rattle.mq_file.specs.declared.journal_file.Keep.{Keep}
 use Rattle.mq_file.specs.declared.journal_file.Keep.TheVariants as keeps
 use Rattle.mq_broker.specs.Configuration.{configuration}
 use Rattle.mq_broker.specs.End.{IsPacketLimit, end_status}
-use Rattle.mq_broker.specs.Recovered.{IsRecovered}
 use Rattle.mq_broker.specs.declared.end.BrokerEnd.{BrokerEnd}
 use Rattle.mq_broker.specs.declared.end.BrokerEnd.TheVariants as ends
 use Rattle.mq_broker.specs.declared.options.BrokerOptions.{BrokerOptions}
-use Rattle.mq_route.specs.Hub.{new_hub}
+use Rattle.mq_store.specs.Restoring.{IsFound}
 use Rattle.mq_programs.specs.Options.{AreOptionsOf, start_status}
 use Rattle.mq_programs.specs.declared.broker.StartError.{StartError}
 use Rattle.mq_programs.specs.declared.kept.Ready.{Ready}
@@ -28,7 +27,7 @@ IsReady None options (Plain own) = own ≡ options
 IsReady None options (Kept broker) = ⊥
 IsReady (Some folder) options (Plain own) = ⊥
 IsReady (Some folder) options (Kept broker) =
-    IsRecovered (new_hub (configuration options)) broker × IsPacketLimit options.max_packet
+    IsFound (configuration options) broker.hub broker.events × IsPacketLimit options.max_packet
 
 -- Why a broker may end. The maximum remaining length of a recovered one was allowed.
 abbrev pub MayEnd : Ready → BrokerEnd → Type 0

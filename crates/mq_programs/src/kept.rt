@@ -3,10 +3,9 @@
 ghost use Rattle.std.specs.Prelude.{◌≡◌, IfErr, IfOk};
 ghost use Rattle.mq_broker.specs.Configuration.{configuration};
 ghost use Rattle.mq_broker.specs.End.{IsPacketLimit};
-ghost use Rattle.mq_broker.specs.Recovered.{IsRecovered};
 ghost use Rattle.mq_broker.specs.declared.open_error.OpenError.TheVariants.{PacketLimit};
 ghost use Rattle.mq_programs.specs.Kept.{MayEnd, keep_of};
-ghost use Rattle.mq_route.specs.Hub.{new_hub};
+ghost use Rattle.mq_store.specs.Restoring.{IsFound};
 
 use mq_broker::{BrokerEnd, BrokerOptions, Log, OpenError, RecoveredBroker, run_broker};
 use mq_cli::{DataFolder, Durability};
@@ -86,7 +85,7 @@ pub(crate) fn recover<R: Clock + Files<File = File>, E: Write>(
     data: DataFolder<'_>,
     errors: &mut E,
 ) -> Result<RecoveredBroker, OpenError>
-    ensures recovered { IfOk result (IsRecovered (new_hub (configuration options))) }
+    ensures recovered { IfOk result (λ broker. IsFound (configuration options) broker.hub broker.events) }
     ensures allowed { IfOk result (λ _. IsPacketLimit options.max_packet) }
     ensures refused { IfErr result (λ error. error ≡ PacketLimit → ¬ (IsPacketLimit options.max_packet)) }
 {
