@@ -1,10 +1,9 @@
 -- A broker that is restored from a snapshot and a journal.
 use Rattle.std.proofs.Common.{◌≡◌, ◌≢◌, ℕ, ◌+◌, ◌<◌, arith, List, [], ◌∷◌, length, take, get_or, map, refl, sym, ap, ◌∙◌, subst, length-append}
 use Rattle.mq_route.specs.declared.config.HubConfig.{HubConfig}
-use Rattle.mq_route.specs.declared.conn.Conn.{Conn}
 use Rattle.mq_route.specs.declared.event.HubEvent.{HubEvent}
 use Rattle.mq_route.specs.Hub.{HubConnection, HubState}
-use Rattle.mq_route.specs.Snapshot.{IsKeptWhole, SnapshotLaws, restored, snapshot}
+use Rattle.mq_route.specs.Snapshot.{IsKeptWhole, IsStorable, SnapshotLaws, quieted, restored, snapshot}
 use Rattle.mq_log.specs.Blocks.{at_rest, gate, rest}
 use Rattle.mq_durable.specs.Recorded.{IsReadable, events_in, events_in_all, events_of}
 use Rattle.mq_durable.specs.Recovering.{HasEnded}
@@ -12,7 +11,7 @@ use Rattle.mq_durable.specs.Replaying.{Replays}
 use Rattle.mq_durable.proofs.Entries.{of_none}
 use Rattle.mq_durable.proofs.Recoveries.{Entry, in_all_push, in_none}
 use Rattle.mq_store.specs.Configuration.{config_bytes}
-use Rattle.mq_store.specs.Restoring.{EndsAfter, IsEnded, IsLoaded}
+use Rattle.mq_store.specs.Restoring.{EndsAfter, IsEnded}
 use Rattle.mq_store.specs.SnapshotFile.{parts_of, snapshot_file, with_digest}
 
 -- ---- the number of events
@@ -56,17 +55,11 @@ ended_from nth config hub journal begun new events config_is hub_is whole counte
 }
 
 pub loaded : (laws : SnapshotLaws) (config : HubConfig) (saved : List ℕ) (old new : HubState) → snapshot new ≡ saved → new.config ≡ config
-    → IsKeptWhole new → saved ≡ snapshot old → IsLoaded config old new
-loaded laws config saved old new read is whole from =
-    let same : restored config new ≡ new = subst (λ (c : HubConfig). restored c new ≡ new) is whole in
-    record {
-      config_is = is;
-      same = read ∙ from;
-      whole = whole;
-      kept = λ storable_old storable_new. sym same ∙ laws.one config new old storable_new storable_old (read ∙ from);
-    }
+    → IsKeptWhole new → IsStorable new → saved ≡ snapshot old → IsStorable old → new ≡ restored config old
+loaded laws config saved old new read is whole new_storable from old_storable =
+    sym (subst (λ (c : HubConfig). restored c new ≡ new) is whole) ∙ laws.one config new old new_storable old_storable (read ∙ from)
 
--- a list of no names is that of no connections
-pub no_connections : (xs : List HubConnection) (names slice : List Conn) → names ≡ map (λ (x : HubConnection). x.conn) xs → slice ≡ names → slice ≡ [] → xs ≡ []
-no_connections [] names slice is same none = refl
-no_connections (x ∷ xs) names slice is same none = absurd cc
+-- a broker that is loaded has connections only if the saved one has
+pub none_loaded : (config : HubConfig) (old new : HubState) → new ≡ restored config old → old.connections ≡ [] → new.connections ≡ []
+none_loaded config old new is none =
+    ap (λ (h : HubState). h.connections) is ∙ ap (λ (xs : List HubConnection). map quieted xs) none

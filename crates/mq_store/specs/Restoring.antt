@@ -14,7 +14,7 @@ use Rattle.mq_file.specs.History.{seen_after}
 use Rattle.mq_route.specs.Begun.{MayBegin}
 use Rattle.mq_route.specs.declared.config.HubConfig.{HubConfig}
 use Rattle.mq_route.specs.Hub.{HubState, new_hub}
-use Rattle.mq_route.specs.Snapshot.{IsKeptWhole, IsStorable, restored, snapshot}
+use Rattle.mq_route.specs.Snapshot.{IsKeptWhole, restored}
 use Rattle.mq_store.specs.SnapshotFile.{snapshot_file}
 
 -- A crash may leave this file of a journal: each entry is the encoding of events, and no open gate
@@ -46,20 +46,12 @@ pub record IsEnded (file journal : List ℕ) (new : HubState) (events : ℕ) : T
   pub events_are : events ≡ length (events_of journal)
   pub ends_after : EndsAfter begun journal new
 
--- A broker that was loaded under a configuration from the snapshot of another one. It is what a
--- snapshot keeps of that one.
-pub record IsLoaded (config : HubConfig) (old new : HubState) : Type 0 where
-  pub config_is : new.config ≡ config
-  pub same : snapshot new ≡ snapshot old
-  pub whole : IsKeptWhole new
-  pub kept : IsStorable old → IsStorable new → new ≡ restored config old
-
--- A broker that was restored under a configuration, and the number of the events.
+-- A broker that was restored under a configuration, and the number of the events: what a snapshot
+-- keeps of the ended one.
 pub record IsRestored (config : HubConfig) (file journal : List ℕ) (new : HubState) (events : ℕ) : Type 0 where
   pub ended : HubState
   pub is_ended : IsEnded file journal ended events
-  pub is_loaded : IsLoaded config ended new
-  pub none : new.connections ≡ []
+  pub loaded : new ≡ restored config ended
 
 -- The broker of a folder under a configuration, with the number of its recovered events: a new one,
 -- or one that was restored.

@@ -1,10 +1,10 @@
 //! Restoring a broker from a snapshot and the journal that follows it.
 
-ghost use Rattle.std.specs.Prelude.{◌≡◌, ◌<◌, [], length, IfOk, IfSome, IsTrue};
+ghost use Rattle.std.specs.Prelude.{◌≡◌, ◌<◌, [], length, IfOk, IfSome};
 ghost use Rattle.mq_durable.specs.Recorded.{events_in, events_in_all, events_of};
 ghost use Rattle.mq_route.specs.Hub.{HubState};
-ghost use Rattle.mq_route.specs.Snapshot.{snapshot};
-ghost use Rattle.mq_store.specs.Restoring.{EndsAfter, IsEnded, IsLoaded, IsRestored};
+ghost use Rattle.mq_route.specs.Snapshot.{IsStorable, restored, snapshot};
+ghost use Rattle.mq_store.specs.Restoring.{EndsAfter, IsEnded, IsRestored};
 ghost use Rattle.mq_store.specs.SnapshotFile.{parts_of, with_digest};
 
 use crate::fault::{StoreError, not_allowed};
@@ -14,7 +14,7 @@ use mq_hub::Hub;
 use mq_log::read_journal;
 use mq_record::{RecordFault, decode_events, record_laws};
 use mq_route::{HubConfig, snapshot_laws};
-use std::alloc::{AllocError, Global};
+use std::alloc::Global;
 
 // The number of events of an entry.
 fn count_in(alloc: Global, entry: &[u8]) -> Result<usize, StoreError>
@@ -63,21 +63,23 @@ fn replay(alloc: Global, hub: Hub, journal: &[u8]) -> Result<Hub, StoreError>
     Ok(hub)
 }
 
-// The saved form of the broker after the events of a journal, whose connections have ended, and the
-// number of these events.
-fn replay_saved(
-    alloc: Global,
-    parts: Parts<'_>,
-    journal: &[u8],
-) -> Result<(Vec<u8>, u64), StoreError>
-    ensures { IfOk result (λ r. (ended : HubState) × (r.0.items ≡ snapshot ended)
-        × IsEnded (with_digest (parts_of parts.nth parts.config.now parts.hub.now)) journal.now ended r.1) }
+// A snapshot of the broker that ended, and the number of its recovered events.
+#[derive(Drop)]
+struct Saved {
+    bytes: Vec<u8>,
+    events: u64,
+}
+
+// Saves the broker after the events of a journal, whose connections have ended.
+fn replay_saved(alloc: Global, parts: Parts<'_>, journal: &[u8]) -> Result<Saved, StoreError>
+    ensures { IfOk result (λ saved. (ended : HubState) × (saved.bytes.items ≡ snapshot ended) × IsStorable ended
+        × IsEnded (with_digest (parts_of parts.nth parts.config.now parts.hub.now)) journal.now ended saved.events) }
 {
     let events = count_events(alloc, journal)?;
     let begun = parts.load(alloc)?;
     let ended = replay(alloc, begun, journal)?;
-    let saved = ended.save()?;
-    Ok((saved, events))
+    let bytes = ended.save()?;
+    Ok(Saved { bytes, events })
 }
 
 // Loads a broker under a configuration.
@@ -85,24 +87,12 @@ fn replay_saved(
 fn load_under(alloc: Global, config: HubConfig, saved: &[u8]) -> Result<Hub, StoreError>
     requires capacity { 0 < config.capacity }
     requires window { IfSome config.window (λ window. 0 < window) }
-    ensures { IfOk result (λ hub. (old : HubState) → saved.now ≡ snapshot old → IsLoaded config old hub) }
+    ensures { IfOk result (λ hub. (old : HubState) → saved.now ≡ snapshot old → IsStorable old → hub ≡ restored config old) }
 {
     snapshot_laws();
     match Hub::load(alloc, config, saved) {
         Ok(hub) => Ok(hub),
         Err(fault) => Err(not_allowed(fault)),
-    }
-}
-
-// Whether a broker has no connection.
-#[tactic(auto, using(crate::proofs::Restores::no_connections))]
-fn is_without_connections(alloc: Global, hub: &Hub) -> Result<bool, AllocError>
-    ensures { IfOk result (λ is. IsTrue is → hub.now.connections ≡ []) }
-{
-    let names = hub.connections(alloc)?;
-    match names.as_slice() {
-        [] => Ok(true),
-        _ => Ok(false),
     }
 }
 
@@ -135,11 +125,8 @@ pub(crate) fn restore(
         IsRestored config (with_digest (parts_of parts.nth parts.config.now parts.hub.now)) journal.now r.hub r.events) }
     ensures none { IfOk result (λ r. r.hub.connections ≡ []) }
 {
-    let (saved, events) = replay_saved(alloc, parts, journal)?;
-    let hub = load_under(alloc, config, saved.as_slice())?;
-    if is_without_connections(alloc, &hub)? {
-        Ok(Restored { hub, events })
-    } else {
-        Err(StoreError::Refused)
-    }
+    let saved = replay_saved(alloc, parts, journal)?;
+    let hub = load_under(alloc, config, saved.bytes.as_slice())?;
+    let events = saved.events;
+    Ok(Restored { hub, events })
 }
