@@ -1,6 +1,6 @@
 //! The broker of an event loop, with a journal.
 
-ghost use Rattle.std.specs.Prelude.{◌≡◌, ◌==◌, [], length, true, OnErr, OnOk};
+ghost use Rattle.std.specs.Prelude.{◌≡◌, ◌==◌, [], length, true};
 
 use mq_durable::{CommitError, Durable, StepRefusal};
 use mq_file::JournalFile;

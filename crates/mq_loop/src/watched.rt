@@ -1,6 +1,6 @@
 //! A broker and its connections, with notes about which have output and which are over.
 
-ghost use Rattle.std.specs.Prelude.{◌≡◌, ◌<◌, ◌≤◌, ◌⊎◌, ◌||◌, ◌∷◌, [], ◌++◌, ◌-◌, ◌^◌, ℕ, false, true, not, ◌==◌, None, Some, IfOk, IfSome, IfNone, OnErr, OnOk, OnSome, length, min};
+ghost use Rattle.std.specs.Prelude.{◌≡◌, ◌<◌, ◌≤◌, ◌+◌, ◌⊎◌, ◌||◌, ◌∷◌, [], ◌++◌, ◌-◌, ◌^◌, ℕ, false, true, not, ◌==◌, None, Some, IfOk, IfSome, IfNone, OnErr, OnOk, OnSome, length, min};
 ghost use Rattle.mq_loop.specs.Accounts.{IsServed, line_at, served_state};
 ghost use Rattle.mq_loop.specs.Calls.{Collecting, Quietly, Reads, commit, with_calls};
 ghost use Rattle.mq_loop.specs.Places.{count_in};
