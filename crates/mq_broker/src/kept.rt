@@ -1,6 +1,6 @@
 //! The broker of an event loop, with a journal.
 
-ghost use Rattle.std.specs.Prelude.{◌≡◌, ◌==◌, [], length, true, OnErr, OnOk};
+ghost use Rattle.std.specs.Prelude.{◌≡◌, ◌==◌, [], length, true};
 
 use mq_durable::{CommitError, Durable, StepRefusal};
 use mq_file::JournalFile;
@@ -56,7 +56,10 @@ impl<'a, R: Files<File = File>> Kept<'a, R> {
         if !self.folder.is_full(&self.durable) {
             return Ok(());
         }
-        match self.folder.begin_next(self.rt, self.alloc, &mut self.durable) {
+        match self
+            .folder
+            .begin_next(self.rt, self.alloc, &mut self.durable)
+        {
             Ok(()) => Ok(()),
             Err(error) => Err(next_failure(error)),
         }

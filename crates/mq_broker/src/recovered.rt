@@ -3,10 +3,10 @@
 ghost use Rattle.std.specs.Prelude.{◌≡◌, ◌≢◌, length, IfErr, IfOk};
 ghost use Rattle.mq_broker.specs.Configuration.{configuration};
 ghost use Rattle.mq_broker.specs.End.{IsPacketLimit};
-ghost use Rattle.mq_broker.specs.Recovered.{IsRecovered};
 ghost use Rattle.mq_broker.specs.declared.end.BrokerEnd.TheVariants as ends;
 ghost use Rattle.mq_broker.specs.declared.open_error.OpenError.TheVariants as errors;
-ghost use Rattle.mq_route.specs.Hub.{new_hub};
+ghost use Rattle.mq_route.specs.Begun.{MayBegin};
+ghost use Rattle.mq_store.specs.Restoring.{IsFound};
 
 use crate::end::BrokerEnd;
 use crate::kept::Kept;
@@ -50,9 +50,10 @@ impl Model for RecoveredBroker {
 }
 
 impl RecoveredBroker {
-    /// Locks the folder, which is created if it is missing, and recovers the broker from it. The
-    /// connections of the broker are ended.
-    #[tactic(auto, using(crate::proofs::Begins::opened_reached, crate::proofs::Begins::opened_recovered))]
+    /// Locks the folder, which is created if it is missing, and recovers the broker from its
+    /// snapshot and its journal. The connections of the broker are ended. The options may differ
+    /// from those under which the folder was written.
+    #[tactic(auto, using(crate::proofs::Begins::begun_reached))]
     pub fn open<R: Files<File = File>>(
         rt: &R,
         alloc: Global,
@@ -60,7 +61,8 @@ impl RecoveredBroker {
         folder: &str,
         store: StoreOptions,
     ) -> Result<RecoveredBroker, OpenError>
-        ensures recovered { IfOk result (IsRecovered (new_hub (configuration options))) }
+        ensures recovered { IfOk result (λ broker. IsFound (configuration options) broker.hub broker.events) }
+        ensures begins { IfOk result (λ broker. MayBegin broker.hub) }
         ensures allowed { IfOk result (λ _. IsPacketLimit options.max_packet) }
         ensures refused { IfErr result (λ error.
             error ≡ errors.PacketLimit → ¬ (IsPacketLimit options.max_packet)) }

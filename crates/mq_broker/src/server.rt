@@ -21,6 +21,7 @@ use mio::net::{TcpListener, TcpStream};
 use mio::{Events, Poll, Token};
 use mq_hub::Hub;
 use mq_loop::{Broker, EventLoop, NonBlocking};
+use mq_route::begun_laws;
 use mq_stream::{Clock, Elapsed};
 use std::alloc::{AllocError, Global};
 use std::io::Write;
@@ -88,6 +89,7 @@ pub fn run_broker<R: Net + time::Clock, W: Write, L: Write + Drop>(
     let Some(packets) = options.packets() else {
         return BrokerEnd::PacketLimit;
     };
+    begun_laws();
     let site = Site::new(&options, packets);
     let hub = Hub::new(alloc, options.into_config(packets));
     match run_at(rt, alloc, site, hub, 0, output, log) {

@@ -23,7 +23,7 @@ use Rattle.mq_durable.specs.declared.condition.Condition.TheVariants.{Sound, Bro
 use Rattle.mq_durable.specs.Recorded.{events_in, events_of}
 use Rattle.mq_durable.specs.declared.fault.StepRefusal.{StepRefusal}
 use Rattle.mq_durable.specs.declared.fault.StepRefusal.TheVariants as steps
-use Rattle.mq_durable.specs.Calls.{Collected, MakesCall, Stepped}
+use Rattle.mq_durable.specs.Calls.{Collected, Continued, MakesCall, Stepped}
 use Rattle.mq_durable.specs.State.{DurableState, IsDurable, IsKept, IsHubRefusal, IsNotStepped, IsStepRefused, after_step, reply_in}
 use Rattle.mq_durable.proofs.Entries.{entry_push, found_push, is_empty, no_entry, none_found, of_none, of_push, readable_none, readable_push}
 use Rattle.mq_durable.proofs.Runs.{reaches_collect, reaches_none, reaches_push, reaches_so}
@@ -262,12 +262,18 @@ new_state base hub disk entry same none =
     let found : events_in entry ≡ [] = ap events_in none ∙ none_found in
     λ i. state (same i) hub (found i) disk Sound
 
--- another file
-pub continued_state : {D : Type 0} (base new hub : HubState) (pending : List HubEvent) (disk later : D) (condition : Condition) (old : DurableState D)
-    → state base hub pending disk condition ≡ old → new ≡ hub → state new hub pending later condition ≡ record old { base = old.hub; disk = later }
-continued_state {D} base new hub pending disk later condition old view same =
-    subst (λ (o : DurableState D). state new hub pending later condition ≡ record o { base = o.hub; disk = later }) view
-    (ap (λ (h : HubState). state h hub pending later condition) same)
+-- a file without an event
+pub begun_none : (file : List ℕ) → file ≡ at_rest [] → events_of file ≡ []
+begun_none file begun = of_none file (ap entries begun)
+
+pub still_none : {D : Type 0} (base hub : HubState) (pending : List HubEvent) (disk : D) (condition : Condition) (old : DurableState D)
+    → state base hub pending disk condition ≡ old → old.pending ≡ [] → pending ≡ []
+still_none {D} base hub pending disk condition old view none = ap (λ (o : DurableState D). o.pending) view ∙ none
+
+pub continued_call : {D : Type 0} (seen : D → List ℕ) (base new hub : HubState) (pending : List HubEvent) (disk later : D) (condition : Condition) (old : DurableState D)
+    → state base hub pending disk condition ≡ old → new ≡ hub → old.pending ≡ [] → seen later ≡ at_rest [] → MakesCall seen Continued old (state new hub pending later condition)
+continued_call {D} seen base new hub pending disk later condition old view same none begun =
+    (none, same ∙ ap (λ (o : DurableState D). o.hub) view, begun_none (seen later) begun, still_none base hub pending disk condition old view none)
 
 -- the test for pending events
 pub pending_test : {D : Type 0} (b : Bool) (base hub : HubState) (disk : D) (slice entry : List ℕ) (condition : Condition) (old : DurableState D)

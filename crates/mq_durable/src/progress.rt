@@ -72,7 +72,8 @@ impl Progress {
         ensures { OnOk result (Continues self.old (event.now ∷ []) self.new) }
     {
         note_opened(&mut self.opened, event)?;
-        replay_on(&mut self.hub, event)
+        replay_on(&mut self.hub, event)?;
+        Ok(())
     }
 
     // Steps the broker through events. On `Err` the progress must be dropped.

@@ -119,7 +119,8 @@ fn end_one(hub: &mut Hub, conn: Conn) -> Result<(), RecoverError>
     if !hub.knows(conn) {
         return Ok(());
     }
-    replay_on(hub, &HubEvent::Ended(conn))
+    replay_on(hub, &HubEvent::Ended(conn))?;
+    Ok(())
 }
 
 // Ends the connections among these that the broker knows. On `Err` the broker must be dropped.

@@ -1,9 +1,9 @@
 -- The number of places in a set, and of connections.
-use Rattle.std.proofs.Common.{◌≡◌, ◌<◌, ◌+◌, ℕ, zero, suc, Bool, true, false, cond, List, [], ◌∷◌, length, set, get_or, Option, Some, None, is_some, true≢false, refl, sym, ap, ap₂, ◌∙◌, arith}
-use Rattle.std.proofs.lemmas.List.Sums.{sum_by-cons, sum_by-set}
+use Rattle.std.proofs.Common.{◌≡◌, ◌<◌, ◌≤◌, ◌+◌, ◌++◌, ℕ, zero, suc, Bool, true, false, cond, List, [], ◌∷◌, length, length-set, set, get_or, Option, Some, None, is_some, true≢false, refl, sym, ap, ap₂, ◌∙◌, arith}
+use Rattle.std.proofs.lemmas.List.Sums.{count_by-le-length, sum_by-cons, sum_by-set}
 use Rattle.mq_loop.specs.Accounts.{Line}
 use Rattle.mq_loop.specs.Places.{count_in, is_in}
-use Rattle.mq_loop.specs.Rounds.{connections_in, exists_at}
+use Rattle.mq_loop.specs.Rounds.{connections_in, exists_at, output_at}
 
 pub in_within : (m : List Bool) (p : ℕ) → is_in p m ≡ true → p < length m
 in_within [] p e = absurd (true≢false (sym e))
@@ -34,6 +34,36 @@ one_fewer lines p h =
     let e = sum_by-set (λ (x : Option Line). cond (is_some x) 1 0) lines p None None (line_within p lines h) in
     let first : cond {A = ℕ} (is_some (get_or lines p None)) 1 0 ≡ 1 = ap (λ (b : Bool). cond {A = ℕ} b 1 0) (some_line p lines h) in
     omega (arith, e, first)
+
+none_line : (p : ℕ) (lines : List (Option Line)) → output_at p lines ≡ None → is_some (get_or lines p None) ≡ false
+none_line p lines e = go (get_or lines p None) e
+  where
+    go : (x : Option Line) → output_at 0 (x ∷ []) ≡ None → is_some x ≡ false
+    go None e = refl
+    go (Some l) e = absurd cc
+
+-- a connection is opened
+pub one_more_line : (lines : List (Option Line)) (p : ℕ) (l : Line) → p < length lines → output_at p lines ≡ None → connections_in (set lines p (Some l)) ≡ connections_in lines + 1
+one_more_line lines p l within none =
+    let e = sum_by-set (λ (x : Option Line). cond (is_some x) 1 0) lines p (Some l) None within in
+    let first : cond {A = ℕ} (is_some (get_or lines p None)) 1 0 ≡ 0 = ap (λ (b : Bool). cond {A = ℕ} b 1 0) (none_line p lines none) in
+    omega (arith, e, first)
+
+-- a place without a connection is left
+pub place_left : (lines : List (Option Line)) (p : ℕ) (l : Line) → p < length lines → output_at p lines ≡ None → connections_in lines < length lines
+place_left lines p l within none =
+    let e = one_more_line lines p l within none in
+    let most = count_by-le-length is_some (set lines p (Some l)) in
+    omega (arith, e, most, length-set lines p (Some l))
+
+-- a place without a connection is added
+pub vacant_line : (lines : List (Option Line)) → connections_in (lines ++ None ∷ []) ≡ connections_in lines
+vacant_line [] = refl
+vacant_line (x ∷ xs) =
+    sum_by-cons one x (xs ++ None ∷ []) ∙ ap (λ (n : ℕ). one x + n) (vacant_line xs) ∙ sym (sum_by-cons one x xs)
+  where
+    one : Option Line → ℕ
+    one x = cond (is_some x) 1 0
 
 -- the same places have connections
 pub as_many : (lines new : List (Option Line)) → length new ≡ length lines → ((p : ℕ) → exists_at p new ≡ exists_at p lines) → connections_in new ≡ connections_in lines

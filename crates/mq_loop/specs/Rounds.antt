@@ -203,6 +203,15 @@ pub record IsWatched (most : ℕ) (served : ServedState) (place_of : ℕ → Opt
       → is_for client (stage_of (name_at place) served.hub.connections) ≡ true → (place_of client ≡ Some place) ⊎ (is_in place over ≡ true)
   pub written : (place : ℕ) → IsWrittenAt most place served ⊎ ((is_in place marked ≡ true) ⊎ (is_in place over ≡ true))
 
+-- the number of connections
+abbrev pub connections_in : List (Option Line) → ℕ
+connections_in lines = count_by is_some lines
+
+-- The notes miss nothing, and the count is the number of connections.
+pub record IsCounted (most : ℕ) (served : ServedState) (place_of : ℕ → Option ℕ) (marked over : List Bool) (count : ℕ) : Type 0 where
+  pub watched : IsWatched most served place_of marked over
+  pub counted : count ≡ connections_in served.lines
+
 -- A broker and the connections that it serves, with notes, for contracts: the limit on the pending
 -- bytes of a connection whose socket takes none, the places that may have output at the broker,
 -- those that must be ended, and whether the broker refused to end one of them in this round,
@@ -221,10 +230,6 @@ watched_state served most_owed marked over failed =
 -- no place is in the set
 abbrev pub IsEmpty : List Bool → Type 0
 IsEmpty flags = (place : ℕ) → is_in place flags ≡ false
-
--- the number of connections
-abbrev pub connections_in : List (Option Line) → ℕ
-connections_in lines = count_by is_some lines
 
 -- no connection is over, unless an allocation failed
 abbrev pub AreEnded : WatchedState → Type 0

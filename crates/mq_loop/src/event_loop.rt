@@ -4,7 +4,7 @@ ghost use Rattle.std.specs.Prelude.{◌≡◌, ◌<◌, ◌-◌, ◌^◌, ℕ, [
 ghost use Rattle.mq_route.specs.Hub.{new_hub};
 ghost use Rattle.mq_loop.specs.Accounts.{IsServed};
 ghost use Rattle.mq_loop.specs.Calls.{IsRound, Quietly, age_at};
-ghost use Rattle.mq_loop.specs.Rounds.{AgesStay, AreBounded, IsEmpty, IsOpened, IsReached, IsSettled, new_loop, pending_at};
+ghost use Rattle.mq_loop.specs.Rounds.{AgesStay, AreBounded, IsEmpty, IsOpened, IsReached, IsSettled, connections_in, new_loop, pending_at};
 
 mod input;
 
@@ -176,8 +176,10 @@ impl<B: Broker + Drop, S: Socket + Drop, O: Observer + Drop> EventLoop<B, S, O> 
     }
 
     /// The number of connections.
-    pub fn len(&self) -> usize {
-        self.watched.notes().count()
+    pub fn len(&self) -> usize
+        ensures { result ≡ connections_in self.now.watched.served.lines }
+    {
+        self.watched.count()
     }
 
     /// Whether the next round must begin at once, because a connection has more to read or must be

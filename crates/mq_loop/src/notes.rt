@@ -33,8 +33,6 @@ pub(crate) struct Notes {
     pub(crate) has_failed: bool,
     // Places without a connection.
     vacant: Vec<u32>,
-    // The number of connections.
-    count: usize,
     reports: Vec<Report>,
     // The connection that the step closed last, with its client.
     closed: Option<(u32, ClientKey)>,
@@ -112,15 +110,9 @@ impl Notes {
             over: PlaceSet::new(alloc),
             has_failed: false,
             vacant: Vec::new(alloc),
-            count: 0,
             reports: Vec::new(alloc),
             closed: None,
         }
-    }
-
-    /// The number of connections.
-    pub(crate) fn count(&self) -> usize {
-        self.count
     }
 
     /// The number of places.
@@ -222,7 +214,6 @@ impl Notes {
         if self.vacant.last().copied() == Some(place) {
             let _ = self.vacant.pop();
         }
-        self.count = self.count.saturating_add(1);
     }
 
     /// Notes that the connection at a place is ended.
@@ -237,7 +228,6 @@ impl Notes {
             self.seats[at] = None;
         }
         self.add_vacant(place);
-        self.count = self.count.saturating_sub(1);
         self.report(Report::Ended { place });
     }
 

@@ -1,6 +1,6 @@
 //! A broker and its connections, with notes about which have output and which are over.
 
-ghost use Rattle.std.specs.Prelude.{◌≡◌, ◌<◌, ◌≤◌, ◌⊎◌, ◌||◌, ◌∷◌, [], ◌++◌, ◌-◌, ◌^◌, ℕ, false, true, not, ◌==◌, None, Some, IfOk, IfSome, IfNone, OnErr, OnOk, OnSome, length, min};
+ghost use Rattle.std.specs.Prelude.{◌≡◌, ◌<◌, ◌≤◌, ◌+◌, ◌⊎◌, ◌||◌, ◌∷◌, [], ◌++◌, ◌-◌, ◌^◌, ℕ, false, true, not, ◌==◌, None, Some, IfOk, IfSome, IfNone, OnErr, OnOk, OnSome, length, min};
 ghost use Rattle.mq_loop.specs.Accounts.{IsServed, line_at, served_state};
 ghost use Rattle.mq_loop.specs.Calls.{Collecting, Quietly, Reads, commit, with_calls};
 ghost use Rattle.mq_loop.specs.Places.{count_in};
@@ -24,6 +24,8 @@ pub(crate) struct Watched<B: Broker + Drop, S: Socket + Drop> {
     served: Served<B, S>,
     notes: Notes,
     most_owed: usize,
+    // The number of connections.
+    count: usize,
 }
 
 impl<B: Broker + Drop, S: Socket + Drop> Model for Watched<B, S> {
@@ -32,7 +34,7 @@ impl<B: Broker + Drop, S: Socket + Drop> Model for Watched<B, S> {
     ghost use Rattle.std.specs.FinSet as set;
     ghost use Rattle.std.specs.HashMap.{get};
     ghost use Rattle.std.specs.Ordering.{nat_cmp};
-    ghost use Rattle.mq_loop.specs.Rounds.{IsWatched, WatchedState, watched_state};
+    ghost use Rattle.mq_loop.specs.Rounds.{IsCounted, WatchedState, watched_state};
 
     ghost Value = { WatchedState };
 
@@ -40,7 +42,7 @@ impl<B: Broker + Drop, S: Socket + Drop> Model for Watched<B, S> {
 
     ghost view = { λ w. watched_state w.served w.most_owed w.notes.marked w.notes.over w.notes.has_failed };
 
-    ghost invariant = { λ w. IsWatched w.most_owed w.served (get nat_eq w.notes.clients) w.notes.marked w.notes.over };
+    ghost invariant = { λ w. IsCounted w.most_owed w.served (get nat_eq w.notes.clients) w.notes.marked w.notes.over w.count };
 }
 
 // Whether one of two is true.
@@ -48,6 +50,15 @@ fn either(first: bool, second: bool) -> bool
     ensures { result ≡ (first || second) }
 {
     first || second
+}
+
+// One more than a number that is below another one.
+fn one_more(count: usize, places: usize) -> usize
+    requires { count < places }
+    ensures { result ≡ count + 1 }
+{
+    let _ = places;
+    count + 1
 }
 
 impl<B: Broker + Drop, S: Socket + Drop> Watched<B, S> {
@@ -60,6 +71,7 @@ impl<B: Broker + Drop, S: Socket + Drop> Watched<B, S> {
             served: Served::new(alloc, broker),
             notes: Notes::new(alloc),
             most_owed,
+            count: 0,
         }
     }
 
@@ -108,11 +120,13 @@ impl<B: Broker + Drop, S: Socket + Drop> Watched<B, S> {
     {
         self.served.laws();
         begun_laws();
+        let places = self.served.places();
         match self.served.open(place, socket) {
             Ok(reply) => {
                 self.notes.note(reply.acts.as_slice());
                 self.notes.sit(place);
                 self.notes.marked.put(place);
+                self.count = one_more(self.count, places);
                 drop(reply);
                 true
             }
@@ -267,6 +281,7 @@ impl<B: Broker + Drop, S: Socket + Drop> Watched<B, S> {
                 observer.on_reply(&reply);
                 self.notes.note(reply.acts.as_slice());
                 self.notes.leave(place);
+                self.count -= 1;
                 Some(true)
             }
             Ok(None) => Some(false),
@@ -340,6 +355,13 @@ impl<B: Broker + Drop, S: Socket + Drop> Watched<B, S> {
     {
         let kept = self.served.kept(place);
         kept.saturating_add(self.served.waiting(place))
+    }
+
+    /// The number of connections.
+    pub(crate) fn count(&self) -> usize
+        ensures { result ≡ connections_in self.now.served.lines }
+    {
+        self.count
     }
 
     /// The number of places.

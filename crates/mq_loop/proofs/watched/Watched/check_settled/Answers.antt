@@ -8,4 +8,4 @@ pub returns-clause-bounded : goal.returns-clause-bounded
 returns-clause-bounded g c =
     let s = c.self.inside in
     subst (λ (v : WatchedState). IsEmpty v.marked → AreEnded v → AreBounded v) c.self.view_is
-    (bounded_is s.most_owed s.served (get nat_eq s.notes.clients) s.notes.marked s.notes.over s.notes.has_failed c.self.invariant)
+    (bounded_is s.most_owed s.served (get nat_eq s.notes.clients) s.notes.marked s.notes.over s.notes.has_failed c.self.invariant.watched)

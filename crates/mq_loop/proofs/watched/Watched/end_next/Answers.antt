@@ -1,4 +1,4 @@
-use Rattle.std.proofs.Common.{◌∙◌, ap, nat_eq, sym}
+use Rattle.std.proofs.Common.{◌∙◌, ap, arith, nat_eq, sym}
 use Rattle.std.specs.HashMap.{get}
 use Rattle.mq_loop.specs.Accounts.{ServedState}
 use Rattle.mq_loop.specs.Rounds.{output_at}
@@ -12,9 +12,12 @@ invariant_of-self-in-Ok-Some g c =
     let n = c.note.new.self in
     let noted = rw (c.as_slice.ensures, c.in-Some.ensures.some) at c.note.ensures.noted in
     let step = rw c.in-Ok-Some.field-0-is at e.step in
-    rw (c.leave.ensures.clients, c.leave.ensures.marked, c.leave.ensures.over)
-    (end_watched c.begun_laws.ensures s.most_owed s.served c.end.new.self c.in-Some.place c.in-Ok-Some.reply (get nat_eq s.notes.clients) (get nat_eq n.clients)
-    s.notes.marked s.notes.over n.marked n.over c.self.invariant c.laws.ensures e.same e.others e.ended step noted)
+    record {
+      watched = rw (c.leave.ensures.clients, c.leave.ensures.marked, c.leave.ensures.over)
+          (end_watched c.begun_laws.ensures s.most_owed s.served c.end.new.self c.in-Some.place c.in-Ok-Some.reply (get nat_eq s.notes.clients) (get nat_eq n.clients)
+          s.notes.marked s.notes.over n.marked n.over c.self.invariant.watched c.laws.ensures e.same e.others e.ended step noted);
+      counted = omega (arith, c.self.invariant.counted, e.fewer);
+    }
 
 pub invariant_of-self-in-Ok-Some-2 : goal.invariant_of-self-in-Ok-Some-2
 invariant_of-self-in-Ok-Some-2 g c =
@@ -23,19 +26,28 @@ invariant_of-self-in-Ok-Some-2 g c =
     let n = c.note.new.self in
     let noted = rw (c.as_slice.ensures, c.in-Some.ensures.some) at c.note.ensures.noted in
     let step = rw c.in-Ok-Some.field-0-is at e.step in
-    rw (c.leave.ensures.clients, c.leave.ensures.marked, c.leave.ensures.over)
-    (end_watched c.begun_laws.ensures s.most_owed s.served c.end.new.self c.in-Some.place c.in-Ok-Some.reply (get nat_eq s.notes.clients) (get nat_eq n.clients)
-    s.notes.marked s.notes.over n.marked n.over c.self.invariant c.laws.ensures e.same e.others e.ended step noted)
+    record {
+      watched = rw (c.leave.ensures.clients, c.leave.ensures.marked, c.leave.ensures.over)
+          (end_watched c.begun_laws.ensures s.most_owed s.served c.end.new.self c.in-Some.place c.in-Ok-Some.reply (get nat_eq s.notes.clients) (get nat_eq n.clients)
+          s.notes.marked s.notes.over n.marked n.over c.self.invariant.watched c.laws.ensures e.same e.others e.ended step noted);
+      counted = omega (arith, c.self.invariant.counted, e.fewer);
+    }
 
 pub invariant_of-self-in-Ok-None : goal.invariant_of-self-in-Ok-None
 invariant_of-self-in-Ok-None g c =
     let s = c.self.inside in
     let q = c.in-Some.place in
     let same = rw c.in-Ok-None.field-0-is at c.in-Ok-None.ensures.none in
-    rw (same, c.in-Some.ensures.some) (vacant_watched s.most_owed s.served q (get nat_eq s.notes.clients) s.notes.marked s.notes.over c.self.invariant
-    (ap (λ (x : ServedState). output_at q x.lines) (sym same) ∙ c.in-Ok-None.ensures.ended))
+    record {
+      watched = rw (same, c.in-Some.ensures.some) (vacant_watched s.most_owed s.served q (get nat_eq s.notes.clients) s.notes.marked s.notes.over c.self.invariant.watched
+          (ap (λ (x : ServedState). output_at q x.lines) (sym same) ∙ c.in-Ok-None.ensures.ended));
+      counted = rw same c.self.invariant.counted;
+    }
 
 pub invariant_of-self-in-Err : goal.invariant_of-self-in-Err
 invariant_of-self-in-Err g c =
     let s = c.self.inside in
-    rw (c.in-Err.ensures.err, c.put.ensures, c.in-Some.ensures.some) (kept_watched s.most_owed s.served c.in-Some.place (get nat_eq s.notes.clients) s.notes.marked s.notes.over c.self.invariant)
+    record {
+      watched = rw (c.in-Err.ensures.err, c.put.ensures, c.in-Some.ensures.some) (kept_watched s.most_owed s.served c.in-Some.place (get nat_eq s.notes.clients) s.notes.marked s.notes.over c.self.invariant.watched);
+      counted = rw c.in-Err.ensures.err c.self.invariant.counted;
+    }
