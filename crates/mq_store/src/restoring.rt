@@ -1,6 +1,6 @@
 //! Restoring a broker from a snapshot and the journal that follows it.
 
-ghost use Rattle.std.specs.Prelude.{◌≡◌, ◌<◌, [], length, IfOk, IfSome};
+ghost use Rattle.std.specs.Prelude.{◌≡◌, ◌<◌, [], length, IfOk, IfSome, OnOk};
 ghost use Rattle.mq_durable.specs.Recorded.{events_in, events_in_all, events_of};
 ghost use Rattle.mq_route.specs.Hub.{HubState};
 ghost use Rattle.mq_route.specs.Snapshot.{IsStorable, restored, snapshot};
@@ -14,7 +14,7 @@ use mq_hub::Hub;
 use mq_log::read_journal;
 use mq_record::{RecordFault, decode_events, record_laws};
 use mq_route::{HubConfig, snapshot_laws};
-use std::alloc::Global;
+use std::alloc::{AllocError, Global};
 
 // The number of events of an entry.
 fn count_in(alloc: Global, entry: &[u8]) -> Result<usize, StoreError>
@@ -63,6 +63,14 @@ fn replay(alloc: Global, hub: Hub, journal: &[u8]) -> Result<Hub, StoreError>
     Ok(hub)
 }
 
+// The snapshot of a broker, which is dropped once, whether an allocation failed or not.
+fn save(hub: Hub) -> Result<Vec<u8>, AllocError>
+    ensures bytes { IfOk result (λ bytes. bytes.items ≡ snapshot hub) }
+    ensures storable { OnOk result (IsStorable hub) }
+{
+    hub.save()
+}
+
 // A snapshot of the broker that ended, and the number of its recovered events.
 #[derive(Drop)]
 struct Saved {
@@ -78,7 +86,7 @@ fn replay_saved(alloc: Global, parts: Parts<'_>, journal: &[u8]) -> Result<Saved
     let events = count_events(alloc, journal)?;
     let begun = parts.load(alloc)?;
     let ended = replay(alloc, begun, journal)?;
-    let bytes = ended.save()?;
+    let bytes = save(ended)?;
     Ok(Saved { bytes, events })
 }
 
