@@ -459,7 +459,9 @@ def restarts(program):
             words = ["--journal-size", str((0, 3_000, SIZE)[nth % 3])]
             kill_at_start(program, folder, words, times.uniform(0, 0.03))
             with Kept(program, folder, *words) as broker:
-                check_files(folder)
+                # With 0 the broker may begin the next journal at any time.
+                if nth % 3:
+                    check_files(folder)
                 fill_queue(broker, nth, 1)
                 # A client is connected, and has sent a part of a packet.
                 with Client(broker, "q") as client:
