@@ -81,7 +81,7 @@ struct Saved {
 // Saves the broker after the events of a journal, whose connections have ended.
 fn replay_saved(alloc: Global, parts: Parts<'_>, journal: &[u8]) -> Result<Saved, StoreError>
     ensures { IfOk result (λ saved. (ended : HubState) × (saved.bytes.items ≡ snapshot ended) × IsStorable ended
-        × IsEnded (with_digest (parts_of parts.nth parts.config.now parts.hub.now)) journal.now ended saved.events) }
+        × IsEnded (with_digest (parts_of parts.entry.nth parts.entry.config.now parts.entry.hub.now)) journal.now ended saved.events) }
 {
     let events = count_events(alloc, journal)?;
     let begun = parts.load(alloc)?;
@@ -130,7 +130,7 @@ pub(crate) fn restore(
     requires capacity { 0 < config.capacity }
     requires window { IfSome config.window (λ window. 0 < window) }
     ensures restored { IfOk result (λ r.
-        IsRestored config (with_digest (parts_of parts.nth parts.config.now parts.hub.now)) journal.now r.hub r.events) }
+        IsRestored config (with_digest (parts_of parts.entry.nth parts.entry.config.now parts.entry.hub.now)) journal.now r.hub r.events) }
     ensures none { IfOk result (λ r. r.hub.connections ≡ []) }
 {
     let saved = replay_saved(alloc, parts, journal)?;

@@ -42,10 +42,8 @@ fn read_short_option(bytes: &[u8]) -> Result<(Option<u16>, &[u8]), SnapshotFault
     Ok((Some(number), rest))
 }
 
-// Reads the limits of packets.
-fn read_packets(bytes: &[u8]) -> Result<(Limits, &[u8]), SnapshotFault> {
-    let (most, rest) = read_eight(bytes)?;
-    let (is_lenient, rest) = read_eight(rest)?;
+// The limits of packets of these numbers.
+fn limits_of(most: u64, is_lenient: u64) -> Result<Limits, SnapshotFault> {
     if most > 268_435_455 {
         return Err(SnapshotFault::Malformed);
     }
@@ -55,7 +53,7 @@ fn read_packets(bytes: &[u8]) -> Result<(Limits, &[u8]), SnapshotFault> {
         Limits::lenient(most as u32)
     };
     match limits {
-        Some(limits) => Ok((limits, rest)),
+        Some(limits) => Ok(limits),
         None => Err(SnapshotFault::Malformed),
     }
 }
@@ -177,7 +175,8 @@ fn read_hashed_table(
 // The numbers of a configuration.
 #[derive(Clone, Copy)]
 struct Numbers {
-    limits: Limits,
+    most: u64,
+    is_lenient: u64,
     capacity: u16,
     window: Option<u16>,
     max_conns: usize,
@@ -186,13 +185,15 @@ struct Numbers {
 
 // Reads the limits of packets, sessions and connections.
 fn read_numbers(bytes: &[u8]) -> Result<(Numbers, &[u8]), SnapshotFault> {
-    let (limits, rest) = read_packets(bytes)?;
+    let (most, rest) = read_eight(bytes)?;
+    let (is_lenient, rest) = read_eight(rest)?;
     let (capacity, rest) = read_short(rest)?;
     let (window, rest) = read_short_option(rest)?;
     let (max_conns, rest) = read_eight(rest)?;
     let (max_sessions, rest) = read_eight(rest)?;
     let numbers = Numbers {
-        limits,
+        most,
+        is_lenient,
         capacity,
         window,
         max_conns: max_conns as usize,
@@ -234,11 +235,12 @@ fn read_bounds(bytes: &[u8]) -> Result<(Bounds, &[u8]), SnapshotFault> {
 // A configuration of which these bytes may be the encoding.
 fn read_fields(alloc: Global, bytes: &[u8]) -> Result<HubConfig, SnapshotFault> {
     let (numbers, rest) = read_numbers(bytes)?;
+    let limits = limits_of(numbers.most, numbers.is_lenient)?;
     let (bounds, rest) = read_bounds(rest)?;
     let (users, rest) = read_user_table(alloc, rest)?;
     let (hashed_users, _) = read_hashed_table(alloc, rest)?;
     Ok(HubConfig {
-        limits: numbers.limits,
+        limits,
         capacity: numbers.capacity,
         window: numbers.window,
         max_conns: numbers.max_conns,
