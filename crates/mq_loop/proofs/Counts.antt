@@ -1,5 +1,5 @@
 -- The number of places in a set, and of connections.
-use Rattle.std.proofs.Common.{◌≡◌, ◌<◌, ◌≤◌, ◌+◌, ◌++◌, ℕ, zero, suc, Bool, true, false, cond, List, [], ◌∷◌, length, length-set, set, get_or, Option, Some, None, is_some, true≢false, refl, sym, ap, ap₂, ◌∙◌, arith}
+use Rattle.std.proofs.Common.{◌≡◌, ◌<◌, ◌+◌, ◌++◌, ℕ, zero, suc, Bool, true, false, cond, List, [], ◌∷◌, length, length-set, set, get_or, Option, Some, None, is_some, true≢false, refl, sym, ap, ap₂, ◌∙◌, arith}
 use Rattle.std.proofs.lemmas.List.Sums.{count_by-le-length, sum_by-cons, sum_by-set}
 use Rattle.mq_loop.specs.Accounts.{Line}
 use Rattle.mq_loop.specs.Places.{count_in, is_in}

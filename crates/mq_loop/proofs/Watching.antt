@@ -20,7 +20,8 @@ use Rattle.mq_route.specs.Step.{HubStep}
 use Rattle.mq_loop.specs.Accounts.{IsServed, Line, ServedState, name_at, served_state}
 use Rattle.mq_loop.specs.Calls.{Call}
 use Rattle.mq_loop.specs.Places.{count_in, is_in}
-use Rattle.mq_loop.specs.Rounds.{AllIn, AreBounded, AreEnded, AreNotedAt, IsEmpty, IsNoted, IsReached, IsSame, IsSettled, IsWatched, IsWritten, IsWrittenAt, MayCollect, OthersStay, Output, OutputStays}
+use Rattle.mq_loop.specs.declared.connection.Flushed.TheVariants.{Blocked}
+use Rattle.mq_loop.specs.Rounds.{AllIn, AreBounded, AreEnded, AreNotedAt, AtOutputs, IsEmpty, IsFlushed, IsNoted, IsReached, IsSame, IsSettled, IsWatched, IsWritten, IsWrittenAt, MayCollect, OthersStay, Output, OutputStays}
 use Rattle.mq_loop.specs.Rounds.{WatchedState, connections_in, ends_left, exists_at, is_copy_for, output_at, waiting_at, watched_state}
 use Rattle.mq_loop.proofs.CarriedBytes.{follows_last}
 use Rattle.mq_loop.proofs.Counts.{as_many, in_within}
@@ -407,6 +408,12 @@ written_same most old new q still same x =
     subst (λ (y : Option Output). IfSome y (IsWritten most (waiting_on (name_at q) new.hub.connections))) (sym same)
     (subst (λ (h : HubState). IfSome (output_at q old.lines) (IsWritten most (waiting_on (name_at q) h.connections))) (sym still) x)
 
+-- a written output of which a socket takes no more
+blocked_is : (most : ℕ) (waiting : List ℕ) (o p : Option Output) → AtOutputs o p (IsFlushed Blocked) → IfSome o (IsWritten most waiting) → IfSome p (IsWritten most waiting)
+blocked_is most waiting o None flushed written = tt
+blocked_is most waiting None (Some y) flushed written = absurd flushed
+blocked_is most waiting (Some x) (Some y) flushed written = (flushed.1 ∙ written.0, written.1, inl flushed.0)
+
 module _ (most : ℕ) (old new : ServedState) (q : ℕ) (f : ℕ → Option ℕ) (m o : List Bool) (w : IsWatched most old f m o) (still : new.hub ≡ old.hub) (same : IsSame old new) where
   -- no output changed
   pub stays_watched : OutputStays old.lines new.lines → IsWatched most new f m o
@@ -420,6 +427,21 @@ module _ (most : ℕ) (old new : ServedState) (q : ℕ) (f : ℕ → Option ℕ)
     over_watched =
         still_watched most old new f m o m (set o q true) q w same.base still same.places refl (length-set o q true) (put_all o q) (λ p apart x. x) others here
         (λ there. let below = exists_within q new.lines there in inr (inr (put_in o q (omega (arith, below, same.places, w.over_places)))))
+
+    -- the place is marked
+    pub marked_watched : IsWatched most new f (set m q true) o
+    marked_watched =
+        still_watched most old new f m o (set m q true) o q w same.base still same.places (length-set m q true) refl (same_all o) (λ p apart x. put_all m q p x) others here
+        (λ there. let below = exists_within q new.lines there in inr (inl (put_in m q (omega (arith, below, same.places, w.marked_places)))))
+
+    -- its socket takes no byte
+    pub blocked_watched : AtOutputs (output_at q old.lines) (output_at q new.lines) (IsFlushed Blocked) → IsWatched most new f m o
+    blocked_watched flushed =
+        still_watched most old new f m o m o q w same.base still same.places refl refl (same_all o) (λ p apart x. x) others here
+        (λ there. ⊎_elim
+        (λ x. inl (subst (λ (h : HubState). IfSome (output_at q new.lines) (IsWritten most (waiting_on (name_at q) h.connections))) (sym still)
+        (blocked_is most (waiting_on (name_at q) old.hub.connections) (output_at q old.lines) (output_at q new.lines) flushed x)))
+        (λ rest. inr rest) (w.written q))
 
 -- ---- the number of connections
 

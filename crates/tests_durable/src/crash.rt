@@ -298,6 +298,8 @@ fn torn(alloc: Global, file: &[u8], before: &[u8], len: usize) -> Result<Vec<u8>
 fn a_stop_after_each_call(rt: HostRuntime) -> Result<(), Fail> {
     let alloc = rt.alloc();
     for (begins_files, calls) in [(false, 2 + 4 * ROUNDS), (true, 2 + (4 + 2) * ROUNDS)] {
+        let whole = crash_after(alloc, calls, begins_files)?;
+        assert_eq!(rt; whole.acknowledged, 3);
         for calls in 0..=calls {
             let crash = crash_after(alloc, calls, begins_files)?;
             let file = crash.file.as_slice();

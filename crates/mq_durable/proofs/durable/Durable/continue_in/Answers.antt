@@ -1,4 +1,4 @@
-use Rattle.std.proofs.Common.{[], ap, ◌∙◌}
+use Rattle.std.proofs.Common.{ap, ◌∙◌}
 use Rattle.mq_durable.specs.Recorded.{events_in}
 use Rattle.mq_durable.proofs.Kept.{begun_none, continued, continued_call, still_none}
 use Rattle.mq_durable.proofs.durable.Durable.continue_in.Goals as goal

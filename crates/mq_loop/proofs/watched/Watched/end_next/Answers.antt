@@ -12,11 +12,12 @@ invariant_of-self-in-Ok-Some g c =
     let n = c.note.new.self in
     let noted = rw (c.as_slice.ensures, c.in-Some.ensures.some) at c.note.ensures.noted in
     let step = rw c.in-Ok-Some.field-0-is at e.step in
+    let fewer = rw c.in-Ok-Some.field-0-is at e.fewer in
     record {
       watched = rw (c.leave.ensures.clients, c.leave.ensures.marked, c.leave.ensures.over)
           (end_watched c.begun_laws.ensures s.most_owed s.served c.end.new.self c.in-Some.place c.in-Ok-Some.reply (get nat_eq s.notes.clients) (get nat_eq n.clients)
           s.notes.marked s.notes.over n.marked n.over c.self.invariant.watched c.laws.ensures e.same e.others e.ended step noted);
-      counted = omega (arith, c.self.invariant.counted, e.fewer);
+      counted = omega (arith, c.self.invariant.counted, fewer);
     }
 
 pub invariant_of-self-in-Ok-Some-2 : goal.invariant_of-self-in-Ok-Some-2
@@ -26,11 +27,12 @@ invariant_of-self-in-Ok-Some-2 g c =
     let n = c.note.new.self in
     let noted = rw (c.as_slice.ensures, c.in-Some.ensures.some) at c.note.ensures.noted in
     let step = rw c.in-Ok-Some.field-0-is at e.step in
+    let fewer = rw c.in-Ok-Some.field-0-is at e.fewer in
     record {
       watched = rw (c.leave.ensures.clients, c.leave.ensures.marked, c.leave.ensures.over)
           (end_watched c.begun_laws.ensures s.most_owed s.served c.end.new.self c.in-Some.place c.in-Ok-Some.reply (get nat_eq s.notes.clients) (get nat_eq n.clients)
           s.notes.marked s.notes.over n.marked n.over c.self.invariant.watched c.laws.ensures e.same e.others e.ended step noted);
-      counted = omega (arith, c.self.invariant.counted, e.fewer);
+      counted = omega (arith, c.self.invariant.counted, fewer);
     }
 
 pub invariant_of-self-in-Ok-None : goal.invariant_of-self-in-Ok-None
