@@ -1,4 +1,4 @@
-//! What clients of a broker send, made before the time is taken.
+//! Packets of clients of a broker, made before the time is taken.
 
 use anyhow::{Context, ensure};
 use bytes::Bytes;
@@ -15,7 +15,7 @@ use std::alloc::Global;
 pub(crate) const BATCH: u16 = 20;
 
 /// Bytes of a payload of this size.
-pub(crate) fn made_up_bytes(alloc: Global, size: usize) -> anyhow::Result<Bytes> {
+fn made_up_bytes(alloc: Global, size: usize) -> anyhow::Result<Bytes> {
     let mut bytes = Vec::with_capacity(alloc, size)?;
     for place in 0..size {
         bytes.push((place % 251) as u8)?;

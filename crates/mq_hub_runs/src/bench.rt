@@ -63,7 +63,7 @@ fn subscriber(number: u16) -> Conn {
 }
 
 /// A broker without users and with many places.
-pub(crate) fn broker(alloc: Global) -> anyhow::Result<Hub> {
+fn broker(alloc: Global) -> anyhow::Result<Hub> {
     let config = HubConfig {
         limits: Limits::new(1_048_576).context("no limits")?,
         capacity: u16::MAX,
@@ -83,18 +83,18 @@ pub(crate) fn broker(alloc: Global) -> anyhow::Result<Hub> {
 }
 
 /// Makes an event happen, after which its connection must be open.
-pub(crate) fn step(hub: &mut Hub, event: &HubEvent) -> anyhow::Result<()> {
+fn step(hub: &mut Hub, event: &HubEvent) -> anyhow::Result<()> {
     ensure!(hub.step(event)?.alive, "a connection was closed");
     Ok(())
 }
 
 /// Ends a connection.
-pub(crate) fn close(hub: &mut Hub, conn: Conn) -> anyhow::Result<()> {
+fn close(hub: &mut Hub, conn: Conn) -> anyhow::Result<()> {
     hub.step(&HubEvent::Ended(conn))?;
     Ok(())
 }
 
-pub(crate) fn take(hub: &mut Hub, conn: Conn) -> anyhow::Result<usize> {
+fn take(hub: &mut Hub, conn: Conn) -> anyhow::Result<usize> {
     let reply = hub.step(&HubEvent::Collect(conn))?;
     ensure!(reply.alive, "a connection was closed");
     Ok(reply.output.len())
