@@ -2,18 +2,15 @@
 //! allocations is refused, that happens in one of the two runs or in neither; the other one is the
 //! reference.
 //!
-//! Sections are separated by empty lines. `schedule` is followed by the lines of a schedule;
-//! `broker` by events: `open 1`, `send 1 c000`, `end 1`, `tick 1000`, `take 1`; `store` by calls of
-//! a store: `set 0 a/+ 1`, `match a/b`, `remove 0 a/+`, `leave 0`; `form` by saved forms of a
-//! session in hexadecimal digits; `session` by its file (`file 4d51..` or `file -`), its payloads
-//! (`holds x`), and the texts to publish, one per line. A first line `spend 12` makes this many
-//! allocations before the sections.
+//! Sections are separated by empty lines. `broker` is followed by events: `open 1`, `send 1 c000`,
+//! `end 1`, `tick 1000`, `take 1`; `store` by calls of a store: `set 0 a/+ 1`, `match a/b`,
+//! `remove 0 a/+`, `leave 0`; `form` by saved forms of a session in hexadecimal digits. A first
+//! line `spend 12` makes this many allocations before the sections.
 //!
-//! Prints for each section `the same`; `out of memory` if a world stopped and its previous results
-//! are the same; `asked again` if a call was refused, changed nothing, and was repeated;
-//! `continues` if the first different result names the refusal, and a world is idle in the end with
-//! its promises kept, or a session publishes the messages of its file when it is asked again, each
-//! at most once; or `another answer`, which is a failure.
+//! Prints for each section `the same`; `out of memory` if a form was not saved and its previous
+//! results are the same; `asked again` if a call was refused, changed nothing, and was repeated;
+//! `goes on` if the first different result names the refusal; or `another answer`, which is a
+//! failure.
 #![tactic(auto)]
 
 mod brokers;
@@ -22,10 +19,7 @@ mod forms;
 mod hexes;
 mod outcome;
 mod ran;
-mod schedules;
 mod section;
-mod sessions;
-mod side;
 mod stores;
 
 use fault::Fault;
@@ -34,7 +28,6 @@ use section::{Section, next_section};
 use std::alloc::{AllocError, Global};
 use std::io;
 use std::process::ExitCode;
-use std::rt::Files;
 
 fn spend(alloc: Global, count: usize) -> Result<usize, AllocError> {
     let mut spent = Vec::with_capacity(alloc, count)?;
@@ -53,25 +46,23 @@ fn spent(alloc: Global, text: &str) -> Result<&str, Fault> {
     Ok(rest)
 }
 
-fn judge<R: Files>(rt: &R, alloc: Global, section: Section<'_>) -> Result<Outcome, Fault> {
+fn judge(alloc: Global, section: Section<'_>) -> Result<Outcome, Fault> {
     match section.kind {
-        "schedule" => schedules::judge(alloc, section.text),
         "broker" => brokers::judge(alloc, section.text),
         "store" => stores::judge(alloc, section.text),
         "form" => forms::judge(alloc, section.text),
-        "session" => sessions::judge(rt, alloc, section.text),
         _ => Err(Fault::Words),
     }
 }
 
-fn judge_all<R: Print + Files>(rt: &R, alloc: Global, text: &str) -> Result<bool, Fault> {
+fn judge_all(rt: &impl Print, alloc: Global, text: &str) -> Result<bool, Fault> {
     let mut rest = spent(alloc, text)?;
     let mut fine = true;
     for _ in 0..text.len() {
         let Some((section, after)) = next_section(rest) else {
             break;
         };
-        let outcome = judge(rt, alloc, section)?;
+        let outcome = judge(alloc, section)?;
         fine &= outcome.may_come();
         println!(rt; "{}: {outcome}", section.kind)?;
         rest = after;

@@ -7,7 +7,7 @@ use std::fmt;
 pub(crate) enum Outcome {
     /// Twice the same.
     Same,
-    /// A world stopped because an allocation failed, and its previous results are the same.
+    /// It stopped because an allocation failed, and its previous results are the same.
     Stopped,
     /// An allocation of a call failed and the call was repeated; all results are the same.
     Again,
