@@ -1,10 +1,10 @@
 //! Packets read from readers.
 
 use crate::fields::bytes_of;
-use crate::outcomes::{Given, add, encoded};
+use crate::taking::{Given, encoded};
 use crate::words::Words;
 use crate::wrong::Wrong;
-use mq_decode::{DecodeError, Limits, ReadError, read_packet, read_sized};
+use mq_decode::{Limits, ReadError, read_packet, read_sized};
 use mq_packet::Packet;
 use std::alloc::Global;
 use std::io;
@@ -47,34 +47,6 @@ impl Read for Slow<'_> {
         self.bytes = left;
         Ok(n)
     }
-}
-
-// The outcome of an error, if this number of bytes was left before the packet.
-fn end_of(error: ReadError, left: usize) -> Result<usize, DecodeError> {
-    match error {
-        ReadError::Cut => Ok(left),
-        ReadError::Fault(fault) => Err(DecodeError::Fault(fault)),
-        ReadError::Io(_) | ReadError::Memory => Err(DecodeError::Memory),
-    }
-}
-
-/// Appends the packets of a reader of the bytes. Returns the number of bytes of an incomplete
-/// packet.
-pub(crate) fn take_read(
-    given: &Given<'_>,
-    at_once: usize,
-    out: &mut Vec<Packet>,
-) -> Result<usize, DecodeError> {
-    let mut reader = Slow::new(given.bytes, at_once, usize::MAX);
-    for _ in 0..=given.bytes.len() {
-        let left = reader.bytes.len();
-        match read_packet(given.alloc, &mut reader, given.limits) {
-            Ok(Some(packet)) => add(Ok(packet), out)?,
-            Ok(None) => return Ok(left),
-            Err(error) => return end_of(error, left),
-        }
-    }
-    Err(DecodeError::Memory)
 }
 
 // Whether the bytes end with these ones, behind the encoding of a packet.

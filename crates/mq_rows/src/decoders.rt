@@ -2,7 +2,7 @@
 //! one.
 
 use crate::fields::{add_hex, bytes_of};
-use crate::outcomes::{Taking, encoded, take};
+use crate::taking::{Taking, encoded, take};
 use crate::words::Words;
 use crate::wrong::Wrong;
 use mq_decode::{DecodeError, Decoder, Limits};
