@@ -1,7 +1,8 @@
 /* Reads the rows of .ci/packet_rows from the standard input, and prints those whose outcome differs
  * and the number of rows: lib_rows < .ci/packet_rows. Each outcome is that of posk_packet, for
- * bytes in a block of their exact size. */
+ * bytes in a block of their exact size; that of `fields` is the fields of the packet. */
 #include "lib_encode.h"
+#include <stdarg.h>
 #include <stdio.h>
 #include <stdlib.h>
 #include <string.h>
@@ -58,6 +59,67 @@ static void outcome(const uint8_t *data, size_t size, size_t before, char *text,
     if (!same) strcat(text, ", encoded otherwise");
 }
 
+static void append(char *text, size_t room, const char *format, ...) {
+    size_t size = strlen(text);
+    va_list values;
+    va_start(values, format);
+    vsnprintf(text + size, room - size, format, values);
+    va_end(values);
+}
+
+/* Appends a field as text, or as hexadecimal digits behind a `#`. */
+static void append_field(char *text, size_t room, const uint8_t *bytes, posk_field field,
+                         bool is_text) {
+    append(text, room, is_text ? " " : " #");
+    for (size_t i = field.at; i < field.at + field.size; i++)
+        append(text, room, is_text ? "%c" : "%02x", bytes[i]);
+}
+
+static void append_message(char *text, size_t room, const uint8_t *bytes, const posk_fields *f) {
+    append_field(text, room, bytes, f->topic, true);
+    append_field(text, room, bytes, f->payload, false);
+    append(text, room, " qos %u%s", f->qos, f->retain ? " retain" : "");
+}
+
+static void append_connect(char *text, size_t room, const uint8_t *bytes, const posk_fields *f) {
+    append_field(text, room, bytes, f->client_id, true);
+    append(text, room, "%s %u", f->clean_session ? " clean" : "", f->keep_alive);
+    if (f->has_will) append_message(text, room, bytes, f);
+    if (f->has_user_name) append_field(text, room, bytes, f->user_name, true);
+    if (f->has_password) append_field(text, room, bytes, f->password, false);
+}
+
+static void append_list(char *text, size_t room, const uint8_t *bytes, const posk_fields *f) {
+    size_t at = f->list.at;
+    posk_field filter;
+    uint8_t qos = 0;
+    if (f->kind == POSK_SUBACK)
+        for (; at < f->list.at + f->list.size; at++) append(text, room, " %u", bytes[at]);
+    else
+        while (posk_next_filter(bytes, f, &at, &filter, &qos)) {
+            append_field(text, room, bytes, filter, true);
+            if (f->kind == POSK_SUBSCRIBE) append(text, room, " %u", qos);
+        }
+}
+
+/* Writes the fields of a packet: its type, its identifier, and the others. */
+static void write_fields(const uint8_t *data, size_t size, char *text, size_t room) {
+    uint8_t *bytes = block(size);
+    memcpy(bytes, data, size);
+    posk_fields f;
+    posk_fault fault;
+    if (posk_packet(bytes, size, max_packet, &f, &fault) != POSK_OK || f.size != size)
+        fail("the bytes are no packet");
+    snprintf(text, room, "%u", f.kind);
+    if (f.id) append(text, room, " id %u%s", f.id, f.dup ? " dup" : "");
+    if (f.kind == POSK_CONNECT) append_connect(text, room, bytes, &f);
+    if (f.kind == POSK_CONNACK) append(text, room, " %u %u", f.session_present, f.code);
+    if (f.kind == POSK_PUBLISH) append_message(text, room, bytes, &f);
+    append_list(text, room, bytes, &f);
+    if (!is_encoded(bytes, &f)) append(text, room, ", encoded otherwise");
+    free(bytes);
+}
+
 /* The value of a digit, or 16. */
 static unsigned digit(char glyph) {
     const char *digits = "0123456789abcdef", *found = glyph ? strchr(digits, glyph) : NULL;
@@ -105,12 +167,15 @@ static bool is_last(const uint8_t *bytes, size_t size, const char *wanted) {
 /* Whether a row has its outcome, which is written to `text`. */
 static bool is_right(char *act, const char *wanted, char *text, size_t room) {
     static uint8_t bytes[ROOM];
-    bool is_of_last = strncmp(act, "last ", 5) == 0;
-    if (!is_of_last && strncmp(act, "reads ", 6)) fail(act);
+    char *kind = strtok(act, " "), *field;
+    bool is_of_last = strcmp(kind, "last") == 0, has_fields = strcmp(kind, "fields") == 0;
+    if (!is_of_last && !has_fields && strcmp(kind, "reads")) fail(kind);
     size_t size = 0;
-    for (char *field = strtok(act + (is_of_last ? 5 : 6), "."); field; field = strtok(NULL, "."))
-        size = add_field(field, bytes, size);
-    outcome(bytes, size, 0, text, room);
+    while ((field = strtok(NULL, "."))) size = add_field(field, bytes, size);
+    if (has_fields)
+        write_fields(bytes, size, text, room);
+    else
+        outcome(bytes, size, 0, text, room);
     return strcmp(text, wanted) == 0 && (!is_of_last || is_last(bytes, size, wanted));
 }
 

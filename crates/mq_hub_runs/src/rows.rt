@@ -12,13 +12,16 @@
 //!
 //! The questions:
 //!
-//!
 //! - `known 1`: whether this connection exists.
 //! - `sessions`: the clients that have one.
 //! - `counts`: the sessions, retained messages and stored messages; then of each session its
 //!   client, its stored messages, and whether it is full.
 //! - `run`: the replies of `hub_run` for the events so far, the numbers of messages taken from and
 //!   placed for each client, and the clients; or the refusal.
+//! - `saved`: the number of events after each of which a broker is saved and loaded. The loaded one
+//!   must have the same replies and snapshots later. Pending output is taken before it is saved.
+//! - `damaged`: the outcomes if a byte of the snapshot is changed, or the snapshot ends there:
+//!   `refused`, or `same` if the loaded broker has exactly this snapshot.
 //! - `crowd 1000`: 1,000 clients connect and subscribe to `a`.
 //! - `portion 0 1000 3004.. = 6 1001`: of these bytes on connection 0, with an act limit of 1000, a
 //!   portion uses 6 and has 1,001 acts.
@@ -27,11 +30,13 @@
 //! several sizes. A result that differs is added. A line that begins with `#` is a comment; the
 //! last one is printed with a row that differs.
 
+mod answer;
 mod brokers;
 mod config;
 mod events;
 mod portions;
 mod questions;
+mod saving;
 mod told;
 mod walk;
 mod wrong;

@@ -10,7 +10,8 @@ use std::alloc::AllocError;
 fn add_handed(told: &mut String, message: &Message) -> Result<(), AllocError> {
     let topic = message.topic.as_str();
     let qos = message.qos.number();
-    write!(told, "handed {topic} {qos} ")?;
+    let retain = if message.retain { "r" } else { "" };
+    write!(told, "handed {topic} {qos}{retain} ")?;
     add_word(told, message.payload.as_slice())
 }
 

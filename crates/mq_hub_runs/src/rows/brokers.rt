@@ -1,13 +1,14 @@
 //! The brokers of a list.
 
+use crate::rows::answer::answer;
 use crate::rows::config::{Kind, config, kind_of};
 use crate::rows::events::event_of;
 use crate::rows::portions::in_portions;
-use crate::rows::questions;
-use crate::rows::told::told;
+use crate::rows::saving::History;
 use crate::rows::wrong::Wrong;
+use crate::rows::{questions, saving};
 use mq_hub::{Hub, HubEvent, HubOver};
-use mq_topic::{FilterStore, ListStore};
+use mq_topic::ListStore;
 use std::alloc::Global;
 
 // The act limits of portions.
@@ -29,28 +30,6 @@ pub(crate) struct Brokers {
     list: HubOver<ListStore>,
     portioned: Vec<Portioned>,
     events: Vec<HubEvent>,
-}
-
-// The number of bytes that an event collects.
-fn pending<S: FilterStore>(hub: &HubOver<S>, event: &HubEvent) -> usize {
-    match event {
-        HubEvent::Collect(conn) => hub.pending(*conn),
-        _ => 0,
-    }
-}
-
-// The result of an event.
-fn answer<S: FilterStore>(
-    alloc: Global,
-    hub: &mut HubOver<S>,
-    event: &HubEvent,
-) -> Result<String, Wrong> {
-    let pending = pending(hub, event);
-    match hub.step(event) {
-        Ok(reply) if reply.output.len() == pending => told(alloc, &reply),
-        Ok(_) => Ok(String::from_str(alloc, "another number of bytes was pending")?),
-        Err(why) => Ok(String::from_str(alloc, why.code())?),
-    }
 }
 
 // The result of an event, whose bytes are handled in portions.
@@ -123,6 +102,15 @@ impl Brokers {
         questions::run(self.alloc, config, self.events.as_slice(), told)
     }
 
+    // The events so far.
+    fn history(&self) -> History<'_> {
+        History {
+            alloc: self.alloc,
+            kind: self.kind,
+            events: self.events.as_slice(),
+        }
+    }
+
     /// Performs the act of a row, and adds its result.
     pub(crate) fn tell(&mut self, act: &str, told: &mut String) -> Result<(), Wrong> {
         let (what, words) = act.split_once(' ').unwrap_or((act, ""));
@@ -131,6 +119,8 @@ impl Brokers {
             "sessions" => questions::sessions(&self.trie, told),
             "counts" => questions::counts(&self.trie, told),
             "run" => self.run(told),
+            "saved" => saving::saved(&self.history(), told),
+            "damaged" => saving::damaged(&self.history(), told),
             "crowd" => questions::crowd(self.alloc, &mut self.trie, words),
             "portion" => questions::portion(self.alloc, &mut self.trie, words, told),
             _ => self.come(act, told),
