@@ -33,6 +33,7 @@ impl Session {
     pub fn save(&self, out: &mut Vec<u8>) -> Result<(), AllocError>
         ensures ok { OnOk result (out.new.items ≡ out.old.items ++ saved_form (without_claims self.now)) }
         ensures session { OnOk result (AreWithin 268435455 self.now.sender.book.entries → IsSession (without_claims self.now)) }
+        ensures received { OnOk result ((i : ℕ) → set.contains self.now.receiver i ≡ true → IsIdentifier i) }
         ensures err { OnErr result (out.new.items ≡ out.old.items) }
     {
         let before = out.len();
@@ -48,6 +49,7 @@ impl Session {
 fn put_session(out: &mut Vec<u8>, session: &Session) -> Result<(), AllocError>
     ensures ok { OnOk result (out.new.items ≡ out.old.items ++ saved_form session.now) }
     ensures session { OnOk result (AreWithin 268435455 session.now.sender.book.entries → IsSession (without_claims session.now)) }
+    ensures received { OnOk result ((i : ℕ) → set.contains session.now.receiver i ≡ true → IsIdentifier i) }
     ensures err { OnErr result (take (length out.old.items) out.new.items ≡ out.old.items) }
 {
     out.extend_from_slice(&SIGNATURE)?;
@@ -58,6 +60,7 @@ fn put_session(out: &mut Vec<u8>, session: &Session) -> Result<(), AllocError>
 pub(crate) fn put_state(out: &mut Vec<u8>, session: &Session) -> Result<(), AllocError>
     ensures ok { OnOk result (out.new.items ≡ out.old.items ++ (saved_sender session.now.sender ++ saved_receiver session.now.receiver)) }
     ensures session { OnOk result (AreWithin 268435455 session.now.sender.book.entries → IsSession (without_claims session.now)) }
+    ensures received { OnOk result ((i : ℕ) → set.contains session.now.receiver i ≡ true → IsIdentifier i) }
     ensures err { OnErr result (take (length out.old.items) out.new.items ≡ out.old.items) }
 {
     session.sender.put(out)?;

@@ -1,8 +1,9 @@
 -- Sessions in a snapshot.
-use Rattle.std.proofs.Common.{◌≡◌, ℕ, List, [], ◌∷◌, ◌++◌, length, refl, sym, ◌∙◌, append_assoc}
-use Rattle.std.specs.List.{flat_map}
+use Rattle.std.proofs.Common.{◌≡◌, ℕ, List, [], ◌∷◌, ◌++◌, All, length, refl, sym, tt, ◌∙◌, append_assoc}
+use Rattle.std.specs.List.{flat_map, AllByRecursion}
+use Rattle.std.proofs.lemmas.List.Elements.{recursion_from_All}
 use Rattle.std.proofs.lemmas.List.{length-map}
-use Rattle.mq_route.specs.Snapshot.{eight, listed, saved_session}
+use Rattle.mq_route.specs.Snapshot.{eight, listed, saved_session, HasIdentifiers}
 use Rattle.mq_hub.specs.declared.sessions.session.BrokerSession.{BrokerSession}
 use Rattle.mq_hub.specs.Inside.Sessions.{session_of, sessions_of}
 
@@ -19,3 +20,11 @@ pub all_saved : (front : List ℕ) (ts : List BrokerSession) → (front ++ eight
 all_saved front ts =
     append_assoc front (eight (length ts)) (flat_map saved_by ts)
     ∙ λ i. front ++ (eight (sym (length-map ts session_of) i) ++ each_saved ts i)
+
+each_identified : (ts : List BrokerSession) → AllByRecursion (λ t. HasIdentifiers (session_of t)) ts → AllByRecursion HasIdentifiers (sessions_of ts)
+each_identified [] h = tt
+each_identified (t ∷ ts) h = (h.0, each_identified ts h.1)
+
+-- the broker's sessions have valid identifiers if those of the table have
+pub all_identified : (ts : List BrokerSession) → All (λ t. HasIdentifiers (session_of t)) ts → AllByRecursion HasIdentifiers (sessions_of ts)
+all_identified ts h = each_identified ts (recursion_from_All (λ t. HasIdentifiers (session_of t)) ts h)

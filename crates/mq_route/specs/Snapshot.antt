@@ -112,9 +112,13 @@ restored config hub = record (quiet hub) { config = config; sessions = map (kept
 abbrev pub IsKeptWhole : HubState → Type 0
 IsKeptWhole hub = restored hub.config hub ≡ hub
 
--- The identifiers that the sessions received are valid (2.3.1).
+-- The identifiers that a session received are valid (2.3.1).
+abbrev pub HasIdentifiers : HubSession → Type 0
+HasIdentifiers s = (i : ℕ) → set.contains s.end.received i ≡ true → IsIdentifier i
+
+-- This applies to each session of the broker.
 abbrev pub IsStorable : HubState → Type 0
-IsStorable hub = AllByRecursion (λ s. (i : ℕ) → set.contains s.end.received i ≡ true → IsIdentifier i) hub.sessions
+IsStorable hub = AllByRecursion HasIdentifiers hub.sessions
 
 -- ---- laws
 

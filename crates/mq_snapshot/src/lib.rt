@@ -29,8 +29,6 @@ mod connection;
 mod fault;
 mod fields;
 mod read;
-#[cfg(test)]
-mod tests;
 mod write;
 
 pub use crate::connection::{SavedConnection, read_connection};

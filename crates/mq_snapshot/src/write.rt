@@ -1,10 +1,12 @@
 //! Writing the parts of a snapshot.
 
-ghost use Rattle.std.specs.Prelude.{◌≡◌, ◌^◌, ◌<◌, ◌++◌, ◌∷◌, [], length, true, OnOk};
+ghost use Rattle.std.specs.Prelude.{◌≡◌, ◌^◌, ◌<◌, ◌++◌, ◌∷◌, ℕ, [], length, true, OnOk};
+ghost use Rattle.std.specs.FinSet as set;
 ghost use Rattle.mq_wire.specs.Number.{number};
 ghost use Rattle.mq_wire.specs.Text.{counted};
 ghost use Rattle.mq_topic.specs.Rows.{Row};
 ghost use Rattle.mq_packet.specs.Encoding.{bit};
+ghost use Rattle.mq_packet.specs.Identifier.{IsIdentifier};
 ghost use Rattle.mq_flow.specs.Saved.{count, saved_payload, signature as session_signature};
 ghost use Rattle.mq_route.specs.Hub.{HubConnection, HubSession};
 ghost use Rattle.mq_route.specs.Snapshot.{eight, listed, saved_connection, saved_end, saved_message, saved_row, saved_session, saved_state, saved_will, signature};
@@ -127,8 +129,9 @@ pub fn put_session(
     end: &ServerEnd,
 ) -> Result<(), AllocError>
     requires { end.now.end.known ≡ true }
-    ensures { let session : HubSession = record { client = client.now; key = key; end = end.now.end; left = left_at } in
+    ensures bytes { let session : HubSession = record { client = client.now; key = key; end = end.now.end; left = left_at } in
         OnOk result (out.new.items ≡ out.old.items ++ saved_session session) }
+    ensures received { OnOk result ((i : ℕ) → set.contains end.now.end.received i ≡ true → IsIdentifier i) }
 {
     put_count(out, key.get())?;
     put_eight(out, left_at)?;
@@ -140,7 +143,8 @@ pub fn put_session(
 #[tactic(auto, using(std::proofs::Common::append_assoc))]
 fn put_end(alloc: Global, out: &mut Vec<u8>, end: &ServerEnd) -> Result<(), AllocError>
     requires { end.now.end.known ≡ true }
-    ensures { OnOk result (out.new.items ≡ out.old.items ++ (eight (length (saved_end end.now.end)) ++ saved_end end.now.end)) }
+    ensures bytes { OnOk result (out.new.items ≡ out.old.items ++ (eight (length (saved_end end.now.end)) ++ saved_end end.now.end)) }
+    ensures received { OnOk result ((i : ℕ) → set.contains end.now.end.received i ≡ true → IsIdentifier i) }
 {
     let mut form = Vec::new(alloc);
     save_end(&mut form, end)?;
@@ -154,7 +158,8 @@ fn put_end(alloc: Global, out: &mut Vec<u8>, end: &ServerEnd) -> Result<(), Allo
 #[tactic(auto, unfolding(mq_route::specs::Snapshot::saved_end))]
 fn save_end(form: &mut Vec<u8>, end: &ServerEnd) -> Result<(), AllocError>
     requires known { end.now.end.known ≡ true }
-    ensures { OnOk result (form.new.items ≡ form.old.items ++ (session_signature ++ (number end.now.capacity ++ saved_end end.now.end))) }
+    ensures bytes { OnOk result (form.new.items ≡ form.old.items ++ (session_signature ++ (number end.now.capacity ++ saved_end end.now.end))) }
+    ensures received { OnOk result ((i : ℕ) → set.contains end.now.end.received i ≡ true → IsIdentifier i) }
 {
     match end.session() {
         Some(session) => session.save(form),

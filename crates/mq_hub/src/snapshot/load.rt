@@ -2,7 +2,7 @@
 
 ghost use Rattle.std.specs.Prelude.{◌≡◌, ◌<◌, [], IfOk, IfSome, OnOk};
 ghost use Rattle.mq_route.specs.Hub.{new_hub};
-ghost use Rattle.mq_route.specs.Snapshot.{quiet, snapshot, IsKeptWhole};
+ghost use Rattle.mq_route.specs.Snapshot.{quiet, snapshot, IsKeptWhole, IsStorable};
 ghost use Rattle.mq_hub.specs.Inside.Loading.{HaveNoOutput};
 
 use crate::hub::HubOver;
@@ -36,6 +36,7 @@ impl HubOver<TrieStore> {
         ensures bytes { IfOk result (λ hub. snapshot hub ≡ bytes.now) }
         ensures config { IfOk result (λ hub. hub.config ≡ config) }
         ensures quiet { IfOk result (λ hub. quiet hub ≡ hub) }
+        ensures storable { IfOk result IsStorable }
         ensures kept { IfOk result IsKeptWhole }
     {
         HubOver::load_with(alloc, config, TrieStore::new(alloc), bytes)
@@ -58,6 +59,7 @@ impl<S: FilterStore + Drop> HubOver<S> {
         ensures bytes { IfOk result (λ hub. snapshot hub ≡ bytes.now) }
         ensures config { IfOk result (λ hub. hub.config ≡ config) }
         ensures quiet { IfOk result (λ hub. quiet hub ≡ hub) }
+        ensures storable { IfOk result IsStorable }
         ensures kept { IfOk result IsKeptWhole }
     {
         let mut hub = HubOver::with_store(alloc, config, store);

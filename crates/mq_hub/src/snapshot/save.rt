@@ -1,7 +1,7 @@
 //! Saving a broker (3.1.2.4, 4.1).
 
-ghost use Rattle.std.specs.Prelude.{◌≡◌, ◌++◌, IfOk};
-ghost use Rattle.mq_route.specs.Snapshot.{quiet, restored, snapshot};
+ghost use Rattle.std.specs.Prelude.{◌≡◌, ◌++◌, IfOk, OnOk};
+ghost use Rattle.mq_route.specs.Snapshot.{quiet, restored, snapshot, IsStorable};
 
 use crate::hub::HubOver;
 use mq_snapshot::{put_eight, put_rows, put_signature};
@@ -13,7 +13,8 @@ impl<S: FilterStore> HubOver<S> {
     #[tactic(auto, unfolding(mq_route::specs::Snapshot::snapshot), using(std::proofs::Common::append_assoc, crate::proofs::SavedConnections::listed_seen))]
     fn save_with(&self, rows: &[StoreRow]) -> Result<Vec<u8>, AllocError>
         requires { rows.now ≡ self.now.rows }
-        ensures { IfOk result (λ bytes. bytes.items ≡ snapshot self.now) }
+        ensures bytes { IfOk result (λ bytes. bytes.items ≡ snapshot self.now) }
+        ensures storable { OnOk result (IsStorable self.now) }
     {
         let mut out = Vec::new(self.alloc);
         put_signature(&mut out)?;
@@ -31,6 +32,7 @@ impl<S: FilterStore> HubOver<S> {
     /// and nothing else is lost. The cost is linear in its size.
     pub fn save(&self) -> Result<Vec<u8>, AllocError>
         ensures bytes { IfOk result (λ bytes. bytes.items ≡ snapshot self.now) }
+        ensures storable { OnOk result (IsStorable self.now) }
         ensures kept { restored self.now.config self.now ≡ quiet self.now }
     {
         let rows = self.tables.store.list()?;

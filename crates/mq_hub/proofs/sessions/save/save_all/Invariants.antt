@@ -1,9 +1,12 @@
-use Rattle.std.proofs.Common.{◌≡◌, ◌++◌, length, take}
+use Rattle.std.proofs.Common.{◌≡◌, ◌++◌, All, length, take}
 use Rattle.std.specs.List.{flat_map}
-use Rattle.mq_route.specs.Snapshot.{eight, saved_session}
+use Rattle.mq_route.specs.Snapshot.{eight, saved_session, HasIdentifiers}
 use Rattle.mq_hub.specs.Inside.Sessions.{session_of}
 use Rattle.mq_hub.proofs.sessions.save.save_all.Given as goal
 
--- The number of sessions was appended, and those before the index.
+-- The number of sessions was appended, and those before the index, whose identifiers are valid.
 abbrev pub invariant-loop-boxed : goal.invariant-loop-boxed
-invariant-loop-boxed l = l.out.items ≡ (l.fn.out.items ++ eight (length l.list)) ++ flat_map (λ t. saved_session (session_of t)) (take l.boxed-index l.list)
+invariant-loop-boxed l = record {
+  written : l.out.items ≡ (l.fn.out.items ++ eight (length l.list)) ++ flat_map (λ t. saved_session (session_of t)) (take l.boxed-index l.list);
+  received : All (λ t. HasIdentifiers (session_of t)) (take l.boxed-index l.list);
+}
