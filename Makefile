@@ -83,16 +83,16 @@ interop: bin/mqtt
 	.ci/interop bin/mqtt
 	.ci/pub_sub.py bin/mqtt
 
-bin/mq_refusals: $(shell .ci/build --sources mq_refusals)
+bin/mq_hub_runs: $(shell .ci/build --sources mq_hub_runs)
 	$(need_kit)
-	@.ci/build mq_refusals bin/mq_refusals
+	@.ci/build mq_hub_runs bin/mq_hub_runs
 
 # Makes each allocation fail in turn, each in a run of its own, by a library that is loaded before
 # the C library.
-refusals: bin/mq_refusals bin/mqtt
+refusals: bin/mq_hub_runs bin/mqtt
 	$(need_cc)
 	$(CC) -std=gnu11 -O2 -shared -fPIC -o bin/refuse.so bench/refuse.c
-	.ci/refusals bin/mq_refusals bin/mqtt bin/refuse.so
+	.ci/refusals bin/mq_hub_runs bin/mqtt bin/refuse.so
 
 install: $(if $(filter 1,$(UNPROVED)),bin/mqtt)
 	@$(is_proved) || test '$(UNPROVED)' = 1 || { echo 'make install installs only a proved program, and there is none in bin/. Run `make prove` first, or set UNPROVED=1 to install the program without a proof.' >&2; exit 1; }

@@ -1,59 +1,69 @@
 //! Runs brokers in memory.
 //!
-//! `rows` reads rows of events from the standard input, as `rows.rt` describes them, and prints
-//! each row whose result differs. Its status is 1 if a row differs or can't be read. `bench`
-//! measures a broker. Packets and a client are measured through the library for C, and brokers over
-//! sockets, in `bench/`.
+//! - `rows` reads rows of events from the standard input, as `rows.rt` describes them, and prints
+//!   each row whose result differs.
+//! - `refusals` reads sections, as `refusals.rt` describes them, which `.ci/refusals` runs with an
+//!   allocation that fails.
+//! - `bench` measures a broker. Packets and a client are measured through the library for C, and
+//!   brokers over sockets, in `bench/`.
+//!
+//! The status is 1 if a row or an outcome is wrong, 2 if the arguments or a section can't be read,
+//! and 3 if an allocation of the program itself fails.
 #![tactic(auto)]
 
 mod bench;
 mod clients;
+mod refusals;
 mod rows;
 
-use anyhow::Context;
+use rows::wrong::Wrong;
 use std::process::ExitCode;
 use std::rt::Clock;
 use std::{env, io};
 
-// The status of a run whose rows are right, or not.
-fn status_of(is_right: bool) -> ExitCode {
-    if is_right {
-        ExitCode::SUCCESS
-    } else {
-        ExitCode::from(1)
+fn run_rows(rt: &HostRuntime) -> Result<bool, Wrong> {
+    let text = io::read_to_string(rt.alloc(), rt.reader())?;
+    Ok(rows::walk_text(rt, rt.alloc(), text.as_str())?)
+}
+
+fn run_refusals(rt: &HostRuntime) -> Result<bool, Wrong> {
+    let text = io::read_to_string(rt.alloc(), rt.reader())?;
+    refusals::judge_all(rt, rt.alloc(), text.as_str())
+}
+
+fn run_bench<R: AllocGlobal + Print + Eprint + Clock>(rt: &R) -> Result<bool, Wrong> {
+    match bench::measure(rt, rt.alloc()) {
+        Ok(()) => Ok(true),
+        Err(error) => {
+            eprintln!(rt; "{error:#}")?;
+            Ok(false)
+        }
     }
 }
 
-fn run_rows(rt: &HostRuntime) -> anyhow::Result<ExitCode> {
-    let text = io::read_to_string(rt.alloc(), rt.reader())?;
-    Ok(status_of(rows::walk_text(rt, rt.alloc(), text.as_str())?))
+fn refuse(rt: &impl Eprint) -> Result<bool, Wrong> {
+    eprintln!(rt; "usage: mq_hub_runs rows|refusals|bench")?;
+    Err(Wrong::Words)
 }
 
-fn run_bench<R: AllocGlobal + Print + Clock>(rt: &R) -> anyhow::Result<ExitCode> {
-    bench::measure(rt, rt.alloc())?;
-    Ok(ExitCode::SUCCESS)
-}
-
-fn refuse(rt: &impl Eprint) -> anyhow::Result<ExitCode> {
-    eprintln!(rt; "usage: mq_hub_runs rows|bench")?;
-    Ok(ExitCode::from(2))
-}
-
-fn perform(rt: &HostRuntime, words: &[String]) -> anyhow::Result<ExitCode> {
-    let [word] = words else {
+fn perform(rt: &HostRuntime) -> Result<bool, Wrong> {
+    let words: Vec<String> = env::args(rt)?.skip(1).collect(rt.alloc())?;
+    let [word] = words.as_slice() else {
         return refuse(rt);
     };
     match word.as_str() {
         "rows" => run_rows(rt),
+        "refusals" => run_refusals(rt),
         "bench" => run_bench(rt),
         _ => refuse(rt),
     }
 }
 
-fn main(rt: HostRuntime) -> anyhow::Result<ExitCode> {
-    let words: Vec<String> = env::args(&rt)
-        .context("reading the arguments")?
-        .skip(1)
-        .collect(rt.alloc())?;
-    perform(&rt, words.as_slice())
+fn main(rt: HostRuntime) -> ExitCode {
+    match perform(&rt) {
+        Ok(true) => ExitCode::SUCCESS,
+        Ok(false) => ExitCode::from(1),
+        Err(Wrong::Memory) => ExitCode::from(3),
+        Err(_) => ExitCode::from(2),
+    }
 }

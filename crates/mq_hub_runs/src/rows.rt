@@ -32,13 +32,13 @@
 
 mod answer;
 mod brokers;
-mod config;
-mod events;
+pub(crate) mod config;
+pub(crate) mod events;
 mod portions;
 mod questions;
 mod saving;
-mod told;
+pub(crate) mod told;
 mod walk;
-mod wrong;
+pub(crate) mod wrong;
 
 pub(crate) use walk::walk_text;

@@ -2,6 +2,7 @@
 
 use crate::rows::wrong::Wrong;
 use bytes::Bytes;
+use hex::FromHexError;
 use mq_hub::{Conn, HubEvent};
 use std::alloc::Global;
 
@@ -22,10 +23,18 @@ fn repeated(word: &str) -> Result<(&str, u32), Wrong> {
     }
 }
 
+fn decoded(alloc: Global, digits: &str) -> Result<Vec<u8>, Wrong> {
+    match hex::decode(alloc, digits) {
+        Ok(bytes) => Ok(bytes),
+        Err(FromHexError::OutOfMemory) => Err(Wrong::Memory),
+        Err(_) => Err(Wrong::Words),
+    }
+}
+
 /// The bytes of hexadecimal digits; `78*60` repeats its digits 60 times.
 pub(crate) fn bytes_of(alloc: Global, word: &str) -> Result<Vec<u8>, Wrong> {
     let (digits, times) = repeated(word)?;
-    let once = hex::decode(alloc, digits).ok().ok_or(Wrong::Words)?;
+    let once = decoded(alloc, digits)?;
     let mut bytes = Vec::new(alloc);
     for _ in 0..times {
         bytes.extend_from_slice(once.as_slice())?;

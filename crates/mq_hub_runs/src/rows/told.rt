@@ -6,7 +6,8 @@ use mq_packet::Message;
 use mq_topic::ClientKey;
 use std::alloc::{AllocError, Global};
 
-fn add_digits(text: &mut String, bytes: &[u8]) -> Result<(), AllocError> {
+/// Adds bytes as hexadecimal digits.
+pub(crate) fn add_digits(text: &mut String, bytes: &[u8]) -> Result<(), AllocError> {
     for byte in bytes {
         write!(text, "{byte:02x}")?;
     }
@@ -54,10 +55,10 @@ fn add_act(text: &mut String, act: &Act) -> Result<(), AllocError> {
     }
 }
 
-/// Adds acts, with a comma between each two.
+/// Adds acts, with a comma between each two of them.
 pub(crate) fn add_acts(text: &mut String, acts: &[Act]) -> Result<(), AllocError> {
     for act in acts {
-        if !text.is_empty() && !text.as_str().ends_with('|') {
+        if !matches!(text.as_bytes().last(), None | Some(b'|' | b'\n')) {
             text.push_str(", ")?;
         }
         add_act(text, act)?;

@@ -1,10 +1,11 @@
-//! Why a row reports nothing.
+//! Why a row or a section has no result.
 
 use mq_hub::HubRefusal;
 use std::alloc::{AllocError, AllocFailed};
+use std::io;
 use thiserror::Error;
 
-/// Why a row reports nothing.
+/// Why a row or a section has no result.
 #[derive(Clone, Copy, Debug, Error)]
 pub(crate) enum Wrong {
     /// Its words can't be read.
@@ -13,7 +14,7 @@ pub(crate) enum Wrong {
     /// A call of the broker was refused.
     #[error("refused")]
     Refused,
-    /// Memory ran out.
+    /// An allocation failed, or reading or writing did.
     #[error("out of memory")]
     Memory,
 }
@@ -26,6 +27,12 @@ impl From<AllocError> for Wrong {
 
 impl<T: Drop> From<AllocFailed<T>> for Wrong {
     fn from(_e: AllocFailed<T>) -> Wrong {
+        Wrong::Memory
+    }
+}
+
+impl From<io::Error> for Wrong {
+    fn from(_e: io::Error) -> Wrong {
         Wrong::Memory
     }
 }

@@ -1,6 +1,6 @@
-//! The result of one run of a section.
+//! The result of running a section once.
 
-use crate::outcome::Outcome;
+use crate::refusals::outcome::Outcome;
 use std::alloc::{AllocError, Global};
 
 /// The result of a section: one line for each answer.
@@ -31,15 +31,9 @@ impl Ran {
 }
 
 fn names_refusal(line: &str) -> bool {
-    [
-        "refused P5",
-        "closed C6",
-        "WillDropped",
-        "Memory",
-        "out of memory",
-    ]
-    .iter()
-    .any(|words| line.contains(words))
+    [" C6", "will dropped", "Memory"]
+        .iter()
+        .any(|words| line.contains(words))
 }
 
 /// The first line that differs from the line in its place, or that has none there.

@@ -2,30 +2,31 @@
 
 ghost use Rattle.std.specs.Prelude.{◌<◌, IfOk, IfSome};
 
-use crate::fault::Fault;
-use crate::hexes::{add_digits, bytes_of};
-use crate::outcome::Outcome;
-use crate::ran::{Ran, outcome};
+use crate::refusals::outcome::Outcome;
+use crate::refusals::ran::{Ran, outcome};
+use crate::rows::events::bytes_of;
+use crate::rows::told::add_digits;
+use crate::rows::wrong::Wrong;
 use mq_decode::Limits;
 use mq_end::{ClientConfig, ClientEnd};
 use mq_flow::{LoadError, Saved, Session};
 use mq_wire::{Text, TextFault};
 use std::alloc::Global;
 
-fn config(alloc: Global) -> Result<ClientConfig, Fault>
+fn config(alloc: Global) -> Result<ClientConfig, Wrong>
     ensures { IfOk result (λ c. IfSome c.window (λ window. 0 < window)) }
 {
     let id = match Text::new(alloc, "w") {
         Ok(id) => id,
-        Err(TextFault::Memory) => return Err(Fault::Memory),
-        Err(_) => return Err(Fault::Words),
+        Err(TextFault::Memory) => return Err(Wrong::Memory),
+        Err(_) => return Err(Wrong::Words),
     };
     Ok(ClientConfig {
         id,
         keep_alive: 0,
         will: None,
         login: None,
-        limits: Limits::new(1_048_576).ok_or(Fault::Words)?,
+        limits: Limits::new(1_048_576).ok_or(Wrong::Words)?,
         capacity: 4,
         window: None,
     })
@@ -51,7 +52,7 @@ fn load_session(alloc: Global, bytes: &[u8], ran: &mut Ran) -> Result<Session, L
     }
 }
 
-fn save(end: &ClientEnd, out: &mut Vec<u8>, ran: &mut Ran) -> Result<(), Fault> {
+fn save(end: &ClientEnd, out: &mut Vec<u8>, ran: &mut Ran) -> Result<(), Wrong> {
     let before = out.len();
     if end.save(out).is_err() {
         ran.ask_again();
@@ -63,7 +64,7 @@ fn save(end: &ClientEnd, out: &mut Vec<u8>, ran: &mut Ran) -> Result<(), Fault> 
     Ok(())
 }
 
-fn save_session(session: &Session, out: &mut Vec<u8>, ran: &mut Ran) -> Result<(), Fault> {
+fn save_session(session: &Session, out: &mut Vec<u8>, ran: &mut Ran) -> Result<(), Wrong> {
     let before = out.len();
     if session.save(out).is_err() {
         ran.ask_again();
@@ -75,7 +76,7 @@ fn save_session(session: &Session, out: &mut Vec<u8>, ran: &mut Ran) -> Result<(
     Ok(())
 }
 
-fn go_on(alloc: Global, saved: Saved, ran: &mut Ran) -> Result<(), Fault> {
+fn go_on(alloc: Global, saved: Saved, ran: &mut Ran) -> Result<(), Wrong> {
     let config = config(alloc)?;
     let mut out = vec![in alloc; 7]?;
     match ClientEnd::with_saved(alloc, config, saved) {
@@ -89,7 +90,7 @@ fn go_on(alloc: Global, saved: Saved, ran: &mut Ran) -> Result<(), Fault> {
 }
 
 /// A form is loaded as a client's, and saved by an end.
-fn of_client(alloc: Global, bytes: &[u8], ran: &mut Ran) -> Result<(), Fault> {
+fn of_client(alloc: Global, bytes: &[u8], ran: &mut Ran) -> Result<(), Wrong> {
     match load(alloc, bytes, ran) {
         Ok(saved) => go_on(alloc, saved, ran),
         Err(why) => Ok(writeln!(ran.lines, "{why:?}")?),
@@ -97,7 +98,7 @@ fn of_client(alloc: Global, bytes: &[u8], ran: &mut Ran) -> Result<(), Fault> {
 }
 
 /// A form is loaded as a session's, and saved.
-fn of_session(alloc: Global, bytes: &[u8], ran: &mut Ran) -> Result<(), Fault> {
+fn of_session(alloc: Global, bytes: &[u8], ran: &mut Ran) -> Result<(), Wrong> {
     let mut out = vec![in alloc; 7]?;
     match load_session(alloc, bytes, ran) {
         Ok(session) => {
@@ -109,7 +110,7 @@ fn of_session(alloc: Global, bytes: &[u8], ran: &mut Ran) -> Result<(), Fault> {
     Ok(ran.lines.push('\n')?)
 }
 
-fn run(alloc: Global, text: &str) -> Result<Ran, Fault> {
+fn run(alloc: Global, text: &str) -> Result<Ran, Wrong> {
     let mut ran = Ran::new(alloc)?;
     for line in text.lines() {
         let bytes = bytes_of(alloc, line)?;
@@ -120,7 +121,7 @@ fn run(alloc: Global, text: &str) -> Result<Ran, Fault> {
 }
 
 /// Forms are loaded, and saved again, twice.
-pub(crate) fn judge(alloc: Global, text: &str) -> Result<Outcome, Fault> {
+pub(crate) fn judge(alloc: Global, text: &str) -> Result<Outcome, Wrong> {
     let first = run(alloc, text)?;
     let second = run(alloc, text)?;
     Ok(outcome(&first, &second))

@@ -1,39 +1,39 @@
 //! Calls of stores of subscriptions.
 
-use crate::fault::Fault;
-use crate::outcome::Outcome;
-use crate::ran::{Ran, outcome};
+use crate::refusals::outcome::Outcome;
+use crate::refusals::ran::{Ran, outcome};
+use crate::rows::wrong::Wrong;
 use mq_topic::{
     ClientKey, FilterStore, ListStore, Qos, TopicFault, TopicFilter, TopicName, TrieStore,
 };
 use std::alloc::Global;
 
-fn client(word: &str) -> Result<ClientKey, Fault> {
-    Ok(ClientKey::new(word.parse().ok().ok_or(Fault::Words)?))
+fn client(word: &str) -> Result<ClientKey, Wrong> {
+    Ok(ClientKey::new(word.parse().ok().ok_or(Wrong::Words)?))
 }
 
-fn filter(alloc: Global, word: &str) -> Result<TopicFilter, Fault> {
+fn filter(alloc: Global, word: &str) -> Result<TopicFilter, Wrong> {
     match TopicFilter::parse(alloc, word) {
         Ok(filter) => Ok(filter),
-        Err(TopicFault::Memory) => Err(Fault::Memory),
-        Err(_) => Err(Fault::Words),
+        Err(TopicFault::Memory) => Err(Wrong::Memory),
+        Err(_) => Err(Wrong::Words),
     }
 }
 
-fn name(alloc: Global, word: &str) -> Result<TopicName, Fault> {
+fn name(alloc: Global, word: &str) -> Result<TopicName, Wrong> {
     match TopicName::parse(alloc, word) {
         Ok(name) => Ok(name),
-        Err(TopicFault::Memory) => Err(Fault::Memory),
-        Err(_) => Err(Fault::Words),
+        Err(TopicFault::Memory) => Err(Wrong::Memory),
+        Err(_) => Err(Wrong::Words),
     }
 }
 
-fn qos(word: &str) -> Result<Qos, Fault> {
+fn qos(word: &str) -> Result<Qos, Wrong> {
     match word {
         "0" => Ok(Qos::Q0),
         "1" => Ok(Qos::Q1),
         "2" => Ok(Qos::Q2),
-        _ => Err(Fault::Words),
+        _ => Err(Wrong::Words),
     }
 }
 
@@ -42,9 +42,9 @@ fn set<S: FilterStore>(
     store: &mut S,
     words: &str,
     ran: &mut Ran,
-) -> Result<(), Fault> {
-    let (key, rest) = words.split_once(' ').ok_or(Fault::Words)?;
-    let (text, digit) = rest.split_once(' ').ok_or(Fault::Words)?;
+) -> Result<(), Wrong> {
+    let (key, rest) = words.split_once(' ').ok_or(Wrong::Words)?;
+    let (text, digit) = rest.split_once(' ').ok_or(Wrong::Words)?;
     let (client, qos) = (client(key)?, qos(digit)?);
     let (row, again) = (filter(alloc, text)?, filter(alloc, text)?);
     if store.set(client, row, qos).is_err() {
@@ -54,7 +54,7 @@ fn set<S: FilterStore>(
     Ok(())
 }
 
-fn find<S: FilterStore>(alloc: Global, store: &S, word: &str, ran: &mut Ran) -> Result<(), Fault> {
+fn find<S: FilterStore>(alloc: Global, store: &S, word: &str, ran: &mut Ran) -> Result<(), Wrong> {
     let name = name(alloc, word)?;
     let found = match store.matching(&name) {
         Ok(found) => found,
@@ -75,8 +75,8 @@ fn remove<S: FilterStore>(
     store: &mut S,
     words: &str,
     ran: &mut Ran,
-) -> Result<(), Fault> {
-    let (key, text) = words.split_once(' ').ok_or(Fault::Words)?;
+) -> Result<(), Wrong> {
+    let (key, text) = words.split_once(' ').ok_or(Wrong::Words)?;
     let there = store.remove(client(key)?, &filter(alloc, text)?);
     Ok(write!(ran.lines, "{there}")?)
 }
@@ -86,19 +86,19 @@ fn call<S: FilterStore>(
     store: &mut S,
     line: &str,
     ran: &mut Ran,
-) -> Result<(), Fault> {
-    let (what, words) = line.split_once(' ').ok_or(Fault::Words)?;
+) -> Result<(), Wrong> {
+    let (what, words) = line.split_once(' ').ok_or(Wrong::Words)?;
     match what {
         "set" => set(alloc, store, words, ran)?,
         "match" => find(alloc, store, words, ran)?,
         "remove" => remove(alloc, store, words, ran)?,
         "leave" => store.remove_client(client(words)?),
-        _ => return Err(Fault::Words),
+        _ => return Err(Wrong::Words),
     }
     Ok(ran.lines.push('\n')?)
 }
 
-fn run<S: FilterStore>(alloc: Global, store: &mut S, text: &str) -> Result<Ran, Fault> {
+fn run<S: FilterStore>(alloc: Global, store: &mut S, text: &str) -> Result<Ran, Wrong> {
     let mut ran = Ran::new(alloc)?;
     for line in text.lines() {
         call(alloc, store, line, &mut ran)?;
@@ -108,7 +108,7 @@ fn run<S: FilterStore>(alloc: Global, store: &mut S, text: &str) -> Result<Ran, 
 
 /// The calls are made to a trie, and to a list; in the end no row is left, and the trie has one
 /// node.
-pub(crate) fn judge(alloc: Global, text: &str) -> Result<Outcome, Fault> {
+pub(crate) fn judge(alloc: Global, text: &str) -> Result<Outcome, Wrong> {
     let mut store = TrieStore::new(alloc);
     let trie = run(alloc, &mut store, text)?;
     let list = run(alloc, &mut ListStore::new(alloc), text)?;
