@@ -1,4 +1,4 @@
-use Rattle.std.proofs.Common.{◌≡◌, ◌++◌, ◌∙◌, ℕ, List, sym, ap, append-nil}
+use Rattle.std.proofs.Common.{◌++◌, ◌∙◌, ℕ, List, sym, ap, append-nil}
 use Rattle.std.specs.List.{flat_map}
 use Rattle.mq_hub.specs.declared.connections.connection.Connection.{Connection}
 use Rattle.mq_hub.proofs.SavedConnections.{listed_by, saved_by}
