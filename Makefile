@@ -7,7 +7,7 @@ ARGS ?= --help
 STREAMS ?= small publish16 publish1024 publish65536 mixed
 export RT
 
-.PHONY: all help test prove lib lib-test program interop refusals install install-lib try bench-c bench-lib bench-ends bench-loopback bench-brokers clean
+.PHONY: all help test prove lib lib-test program interop refusals install install-lib try bench-c bench-lib bench-client bench-loopback bench-brokers clean
 
 # Stops with one line if the kit's command, or a C compiler, is missing.
 need_kit = $(if $(shell command -v $(RT) 2>/dev/null),,$(error $(RT) is not on the path: README explains it under "Requirements"))
@@ -61,7 +61,7 @@ help:
 	@echo 'make try ARGS=..      runs mqtt compiled with checks of each access to memory'
 	@echo 'make bench-c          measures plain C over streams of packets'
 	@echo 'make bench-lib        compares libposkvari with plain C over these streams'
-	@echo 'make bench-ends       compares its client with the ends of mq_bench'
+	@echo 'make bench-client     measures its client'
 	@echo 'make bench-loopback   measures `mqtt serve` over 127.0.0.1'
 	@echo 'make bench-brokers    compares `mqtt broker` with mosquitto'
 	@echo 'make clean            removes bin/ and lib/'
@@ -83,16 +83,16 @@ interop: bin/mqtt
 	.ci/interop bin/mqtt
 	.ci/pub_sub.py bin/mqtt
 
-bin/mq_refusals: $(shell .ci/build --sources mq_refusals)
+bin/mq_hub_runs: $(shell .ci/build --sources mq_hub_runs)
 	$(need_kit)
-	@.ci/build mq_refusals bin/mq_refusals
+	@.ci/build mq_hub_runs bin/mq_hub_runs
 
 # Makes each allocation fail in turn, each in a run of its own, by a library that is loaded before
 # the C library.
-refusals: bin/mq_refusals
+refusals: bin/mq_hub_runs bin/mqtt
 	$(need_cc)
 	$(CC) -std=gnu11 -O2 -shared -fPIC -o bin/refuse.so bench/refuse.c
-	.ci/refusals bin/mq_refusals bin/refuse.so
+	.ci/refusals bin/mq_hub_runs bin/mqtt bin/refuse.so
 
 install: $(if $(filter 1,$(UNPROVED)),bin/mqtt)
 	@$(is_proved) || test '$(UNPROVED)' = 1 || { echo 'make install installs only a proved program, and there is none in bin/. Run `make prove` first, or set UNPROVED=1 to install the program without a proof.' >&2; exit 1; }
@@ -132,20 +132,12 @@ bench-lib: lib
 	$(CC) -std=c11 -O3 -DWITH_LIBRARY -Iinclude -o bin/same_tests_lib bench/same_tests.c lib/libposkvari.a
 	bin/same_tests_lib $(STREAMS)
 
-# The proved mq_bench if `rt run` has made one and the library is proved, otherwise one as written.
-mq_bench = $(or $(and $(wildcard $(lib_proved)),$(wildcard crates/mq_bench/out/mq_bench)),bin/mq_bench)
-
-bin/mq_bench: $(shell .ci/build --sources mq_bench)
-	$(need_kit)
-	@.ci/build mq_bench bin/mq_bench
-
-# Messages through a client of the library, and between the ends of mq_bench, in one run.
-bench-ends: lib $(mq_bench)
+# Messages through a client of the library, and its memory.
+bench-client: lib
 	$(need_cc)
+	mkdir -p bin
 	$(CC) -std=c11 -O3 -Iinclude -o bin/client_lib bench/client.c lib/libposkvari.a
-	@(bin/client_lib && $(mq_bench) ends) | awk '{print} /^client qos=1/ {sub("ns=", "", $$3); client = $$3} \
-	    /^ends: Q1, 16 bytes/ {ends = $$5} \
-	    END {if (ends) printf "a QoS 1 message through the client takes %.2f of that of mq_bench ends\n", client / ends}'
+	bin/client_lib
 
 # Loads the program's broker, and mosquitto's if that is installed, over 127.0.0.1. Prints the
 # messages that each delivers in a second, and the latency: make bench-loopback DELIVERIES=10000

@@ -26,6 +26,7 @@ SHOWN = [
     ("20020100", 0, "CONNACK session=1 code=0\n"),
     ("20020005", 0, "CONNACK session=0 code=5\n"),
     # Packets with texts and lists.
+    ("3c090003612f6201026869", 0, "PUBLISH topic=a/b qos=2 dup=1 retain=0 id=258 payload=6869\n"),
     ("100d00044d5154540402003c000161", 0, "CONNECT id=a clean=1 keep=60\n"),
     ("100c00044d51545404000000", 1, "held 12\n"),
     ("101a00044d51545404ee000a000161000177000200ff000175000170", 0, "CONNECT id=a clean=1 keep=10 will=w wqos=1 wretain=1 wmsg=00ff user=u pass=70\n"),

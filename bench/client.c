@@ -1,4 +1,4 @@
-/* Measures a client of the library, for `make bench-lib` and `make bench-ends`: the processor's
+/* Measures a client of the library, for `make bench-client`: the processor's
  * nanoseconds of a message of 16 bytes with each quality of service, from posk_publish to the
  * acknowledgement, alone and while others are in flight, and the memory of an idle client. The
  * server's answers are made here. */

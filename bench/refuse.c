@@ -1,6 +1,6 @@
 /* Refuses one allocation of a program: the one with the number in REFUSE, counted from 1. It is
-   loaded before the C library (LD_PRELOAD). If the program made that allocation, a line on standard
-   error says so at its end. Nothing of it is proved. */
+   loaded before the C library (LD_PRELOAD). A line on standard error says so when the program makes
+   that allocation. Nothing of it is proved. */
 
 #include <errno.h>
 #include <stddef.h>
@@ -21,13 +21,11 @@ __attribute__((constructor)) static void begin(void) {
     asked = 0;
 }
 
-__attribute__((destructor)) static void end(void) {
-    static const char line[] = "refused\n";
-    if (refused && asked >= refused && write(2, line, sizeof line - 1) < 0) _exit(9);
-}
-
 static int is_refused(void) {
-    return refused && ++asked == refused;
+    static const char line[] = "refused\n";
+    if (!refused || ++asked != refused) return 0;
+    if (write(2, line, sizeof line - 1) < 0) _exit(9);
+    return 1;
 }
 
 static void *none(void) {

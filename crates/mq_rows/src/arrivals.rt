@@ -1,7 +1,8 @@
 //! Bytes that arrive at an end of either side.
 
 use crate::brief::add_progress;
-use crate::values::{bytes_of, view_of};
+use crate::fields::bytes_of;
+use crate::messages::view_of;
 use crate::words::Words;
 use crate::wrong::Wrong;
 use mq_decode::PacketView;

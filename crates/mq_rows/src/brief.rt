@@ -1,8 +1,8 @@
 //! The results of bytes, packets and calls as short texts.
 
-use crate::values::add_word;
+use crate::messages::add_word;
 use crate::wrong::Wrong;
-use mq_end::{CloseReason, Happening, PacketOutcome, Progress, PublishRefusal, State};
+use mq_end::{CloseReason, Happening, PacketOutcome, Progress, PublishRefusal, SmallList, State};
 use mq_flow::Session;
 use mq_packet::{Message, PacketId};
 use std::alloc::AllocError;
@@ -10,7 +10,8 @@ use std::alloc::AllocError;
 fn add_handed(told: &mut String, message: &Message) -> Result<(), AllocError> {
     let topic = message.topic.as_str();
     let qos = message.qos.number();
-    write!(told, "handed {topic} {qos} ")?;
+    let retain = if message.retain { "r" } else { "" };
+    write!(told, "handed {topic} {qos}{retain} ")?;
     add_word(told, message.payload.as_slice())
 }
 
@@ -43,10 +44,22 @@ fn add_comma(told: &mut String) -> Result<(), AllocError> {
     told.push_str(", ")
 }
 
-fn add_happenings(told: &mut String, happenings: &[Happening]) -> Result<(), AllocError> {
+pub(crate) fn add_happenings(
+    told: &mut String,
+    happenings: &[Happening],
+) -> Result<(), AllocError> {
     for happening in happenings {
         add_comma(told)?;
         add_happening(told, happening)?;
+    }
+    Ok(())
+}
+
+/// Adds happenings that are taken out of their list one by one.
+pub(crate) fn add_each(told: &mut String, happenings: SmallList<Happening>) -> Result<(), Wrong> {
+    for happening in happenings {
+        add_comma(told)?;
+        add_happening(told, &happening)?;
     }
     Ok(())
 }

@@ -4,10 +4,12 @@ ghost use Rattle.std.specs.Prelude.{◌≡◌, IfOk, None};
 
 use crate::arrivals::{receive, take_view};
 use crate::brief::{
-    add_asked, add_deadline, add_done, add_late, add_published, add_session, add_state,
+    add_asked, add_deadline, add_done, add_each, add_happenings, add_late, add_published,
+    add_session, add_state,
 };
+use crate::fields::bytes_of;
+use crate::messages::{add_short, message};
 use crate::sessions::Books;
-use crate::values::{add_hex, bytes_of, message};
 use crate::words::Words;
 use crate::wrong::Wrong;
 use mq_decode::Limits;
@@ -21,7 +23,7 @@ use std::alloc::Global;
 fn config(alloc: Global, words: &mut Words<'_>) -> Result<ClientConfig, Wrong>
     ensures { IfOk result (λ config. config.window ≡ None) }
 {
-    let capacity = words.short()?;
+    let capacity = words.number()?;
     let limits = words.limits()?;
     Ok(ClientConfig {
         id: Text::new(alloc, "w").ok().ok_or(Wrong::Words)?,
@@ -58,7 +60,7 @@ pub(crate) fn resume(
 fn save(alloc: Global, client: &ClientEnd, told: &mut String) -> Result<(), Wrong> {
     let mut out = Vec::new(alloc);
     client.save(&mut out)?;
-    Ok(add_hex(told, out.as_slice())?)
+    Ok(add_short(told, out.as_slice())?)
 }
 
 fn go_on(alloc: Global, config: ClientConfig, saved: Saved, told: &mut String) -> Result<(), Wrong>
@@ -92,6 +94,24 @@ fn open(
     let clean = words.next() == Some("clean");
     client.connect(moment, clean)?;
     add_state(told, client.state())
+}
+
+// `moved BYTES` and `each BYTES`: receives bytes, and takes the happenings out, as a vector or one
+// by one.
+fn take_out(
+    alloc: Global,
+    client: &mut ClientEnd,
+    moment: u64,
+    words: &mut Words<'_>,
+    told: &mut String,
+    is_moved: bool,
+) -> Result<(), Wrong> {
+    let bytes = bytes_of(alloc, words)?;
+    let happenings = client.receive(moment, bytes.as_slice()).happenings;
+    if is_moved {
+        return Ok(add_happenings(told, happenings.into_vec()?.as_slice())?);
+    }
+    add_each(told, happenings)
 }
 
 // `publish QOS BYTES`: a message to `t`.
@@ -173,7 +193,7 @@ fn swap(
     let mut queue = ByteQueue::new(alloc);
     queue.append(bytes.as_slice())?;
     client.swap_output(&mut queue);
-    Ok(add_hex(told, queue.as_slice())?)
+    Ok(add_short(told, queue.as_slice())?)
 }
 
 pub(crate) fn tell(
@@ -187,6 +207,8 @@ pub(crate) fn tell(
         "open" => open(client, moment, words, told),
         "receive" => receive(alloc, client, moment, words, told),
         "view" => take_view(alloc, client, moment, words, told),
+        "moved" => take_out(alloc, client, moment, words, told, true),
+        "each" => take_out(alloc, client, moment, words, told, false),
         "publish" => publish(alloc, client, words, told),
         "subscribe" => subscribe(alloc, client, words, told),
         "unsubscribe" => unsubscribe(alloc, client, words, told),
@@ -211,11 +233,11 @@ pub(crate) fn see(
 ) -> Result<(), Wrong> {
     let Some(written) = written else {
         let output = client.take_all_output();
-        return Ok(add_hex(seen, output.as_slice())?);
+        return Ok(add_short(seen, output.as_slice())?);
     };
     if client.output().len() < written {
         return Err(Wrong::Words);
     }
     client.take_output(written);
-    Ok(add_hex(seen, client.output())?)
+    Ok(add_short(seen, client.output())?)
 }

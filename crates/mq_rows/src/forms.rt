@@ -1,7 +1,7 @@
 //! Saved forms of sessions, and loading them.
 
 use crate::clients::go_on_with;
-use crate::values::bytes_of;
+use crate::fields::bytes_of;
 use crate::words::Words;
 use crate::wrong::Wrong;
 use mq_flow::{LoadError, Saved, Session};
@@ -86,7 +86,7 @@ fn load_with(
     words: &mut Words<'_>,
     told: &mut String,
 ) -> Result<(), Wrong> {
-    let place = words.count()?;
+    let place: usize = words.number()?;
     let others = bytes_of(alloc, words)?;
     let mut bytes = Vec::new(alloc);
     put(&mut bytes, form, place, others.as_slice())?;
@@ -134,8 +134,8 @@ pub(crate) fn tell(
     match words.word()? {
         "with" => load_with(alloc, form, words, told),
         "first" => {
-            let front = form.get(..words.count()?).ok_or(Wrong::Words)?;
-            load(alloc, told, front)
+            let length: usize = words.number()?;
+            load(alloc, told, form.get(..length).ok_or(Wrong::Words)?)
         }
         "behind" => load_behind(alloc, form, words, told),
         "client" => go_on_with(alloc, form, words, told),

@@ -2,7 +2,8 @@
 
 ghost use Rattle.std.specs.Prelude.{◌≤◌, length, IfOk};
 
-use crate::values::{add_word, bytes_of, message, packet_of};
+use crate::fields::bytes_of;
+use crate::messages::{add_word, message, packet_of};
 use crate::words::Words;
 use crate::wrong::Wrong;
 use mq_end::ByteQueue;
@@ -38,7 +39,7 @@ fn append_publish(
 fn waiting(queue: &ByteQueue, words: &mut Words<'_>) -> Result<usize, Wrong>
     ensures { IfOk result (λ count. count ≤ length queue.now) }
 {
-    let count = words.count()?;
+    let count: usize = words.number()?;
     if queue.len() < count {
         return Err(Wrong::Words);
     }

@@ -5,16 +5,17 @@ use crate::brief::{
     add_deadline, add_done, add_late, add_outcome, add_progress, add_published, add_session,
     add_state,
 };
+use crate::fields::bytes_of;
+use crate::messages::{add_short, message, packet_of};
 use crate::sessions::Books;
-use crate::values::{add_hex, bytes_of, message, packet_of};
-use crate::words::{Words, qos_of};
+use crate::words::Words;
 use crate::wrong::Wrong;
 use mq_end::{ByteQueue, ServerConfig, ServerEnd};
 use mq_packet::{Message, NonEmpty, Packet, SubAckCode};
 use std::alloc::Global;
 
 fn config(words: &mut Words<'_>) -> Result<ServerConfig, Wrong> {
-    let capacity = words.short()?;
+    let capacity = words.number()?;
     let limits = words.limits()?;
     let window = words.short_if_any()?;
     Ok(ServerConfig {
@@ -104,7 +105,7 @@ fn suback(
     told: &mut String,
 ) -> Result<(), Wrong> {
     let id = words.id()?;
-    let codes = vec![in alloc; SubAckCode::Failure; words.count()?]?;
+    let codes = vec![in alloc; SubAckCode::Failure; words.number()?]?;
     if codes.is_empty() {
         return Err(Wrong::Words);
     }
@@ -125,7 +126,7 @@ fn add_messages(
 ) -> Result<(), Wrong> {
     for word in words.rest() {
         let payload = Vec::from_slice(alloc, payload)?;
-        messages.push(message(alloc, "t", qos_of(word)?, payload)?)?;
+        messages.push(message(alloc, "t", Words::new(word).qos()?, payload)?)?;
     }
     Ok(())
 }
@@ -144,7 +145,7 @@ fn ready(
     words: &mut Words<'_>,
     told: &mut String,
 ) -> Result<(), Wrong> {
-    let more = words.count()?;
+    let more = words.number()?;
     let messages = messages(alloc, words)?;
     match server.ready(messages.as_slice(), more) {
         Ok(()) => told.push_str("ready")?,
@@ -177,7 +178,7 @@ fn reserve_connect(
     words: &mut Words<'_>,
     told: &mut String,
 ) -> Result<(), Wrong> {
-    let more = words.count()?;
+    let more = words.number()?;
     let packet = packet_of(alloc, words)?;
     let messages = messages(alloc, words)?;
     add_ready(server, &packet, messages.as_slice(), more, told)
@@ -194,7 +195,7 @@ fn swap(
     let mut queue = ByteQueue::new(alloc);
     queue.append(bytes.as_slice())?;
     server.swap_output(&mut queue);
-    Ok(add_hex(told, queue.as_slice())?)
+    Ok(add_short(told, queue.as_slice())?)
 }
 
 fn tell_of_server(
@@ -251,11 +252,11 @@ pub(crate) fn see(
 ) -> Result<(), Wrong> {
     let Some(written) = written else {
         let output = server.take_all_output();
-        return Ok(add_hex(seen, output.as_slice())?);
+        return Ok(add_short(seen, output.as_slice())?);
     };
     if server.output().len() < written {
         return Err(Wrong::Words);
     }
     server.take_output(written);
-    Ok(add_hex(seen, server.output())?)
+    Ok(add_short(seen, server.output())?)
 }

@@ -3,7 +3,8 @@
 ghost use Rattle.std.specs.Prelude.{◌≡◌, IfOk, OnOk};
 ghost use Rattle.mq_topic.specs.declared.qos.Qos.TheVariants.{Q0};
 
-use crate::values::{add_hex, bytes_of, message};
+use crate::fields::bytes_of;
+use crate::messages::{add_short, message};
 use crate::words::Words;
 use crate::wrong::Wrong;
 use mq_flow::{Claim, Reaction, ReceiveRefusal, Refusal, Sender, Session};
@@ -22,7 +23,7 @@ pub(crate) struct Books {
 
 /// `new session ROOM [WINDOW]`.
 pub(crate) fn new_books(alloc: Global, words: &mut Words<'_>) -> Result<Books, Wrong> {
-    let capacity = words.short()?;
+    let capacity = words.number()?;
     let window = words.short_if_any()?;
     if capacity == 0 {
         return Err(Wrong::Words);
@@ -81,7 +82,7 @@ fn claim(session: &mut Session, words: &mut Words<'_>, told: &mut String) -> Res
     let given = if words.is_empty() {
         session.claim_id(Claim::Unsubscribe, 1)
     } else {
-        session.claim_id(Claim::Subscribe, words.count()?)
+        session.claim_id(Claim::Subscribe, words.number()?)
     };
     add_given(told, given)
 }
@@ -91,7 +92,7 @@ fn awaits(sender: &Sender, words: &mut Words<'_>, told: &mut String) -> Result<(
     let awaits = if words.is_empty() {
         sender.awaits_unsuback(id)
     } else {
-        sender.awaits_suback(id, words.count()?)
+        sender.awaits_suback(id, words.number()?)
     };
     write!(told, "{awaits}")?;
     Ok(())
@@ -165,7 +166,7 @@ fn save(
 ) -> Result<(), Wrong> {
     let mut out = vec![in alloc; 7]?;
     add_form(alloc, session, words, &mut out)?;
-    add_hex(told, out.as_slice())?;
+    add_short(told, out.as_slice())?;
     Ok(())
 }
 
@@ -211,7 +212,7 @@ fn tell_of_sender(
         "puback" => add_reaction(told, sender.on_puback(words.id()?)),
         "pubrec" => add_reaction(told, sender.on_pubrec(words.id()?)),
         "pubcomp" => add_reaction(told, sender.on_pubcomp(words.id()?)),
-        "reserve" => Ok(sender.reserve(words.count()?)?),
+        "reserve" => Ok(sender.reserve(words.number()?)?),
         _ => Err(Wrong::Words),
     }
 }

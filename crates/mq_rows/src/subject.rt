@@ -1,11 +1,14 @@
 //! What a list is of.
 
+use crate::decoders::Decoders;
+use crate::fields::bytes_of;
 use crate::row::Act;
 use crate::sessions::{self, Books};
-use crate::values::bytes_of;
+use crate::stores::Stores;
 use crate::words::Words;
 use crate::wrong::Wrong;
-use crate::{clients, forms, queues, servers};
+use crate::{clients, encoding, forms, limited, queues, servers, values};
+use mq_decode::Limits;
 use mq_end::{ByteQueue, ClientEnd, ServerEnd};
 use mq_flow::Session;
 use std::alloc::Global;
@@ -16,6 +19,16 @@ use std::mem;
 pub(crate) enum Subject {
     /// No list began.
     Nothing,
+    /// Values of the layers below packets, codes and errors.
+    Values,
+    /// Encoded packets.
+    Packets,
+    /// Bytes under a limit.
+    Bytes(Limits),
+    /// Stores of subscriptions.
+    Stores(Box<Stores>),
+    /// Decoders.
+    Decoders(Box<Decoders>),
     /// A session.
     Session(Box<Books>),
     /// The saved form of a session.
@@ -31,6 +44,11 @@ pub(crate) enum Subject {
 /// The subject that the words after `new` ask for.
 pub(crate) fn new_subject(alloc: Global, words: &mut Words<'_>) -> Result<Subject, Wrong> {
     match words.word()? {
+        "values" => Ok(Subject::Values),
+        "packets" => Ok(Subject::Packets),
+        "bytes" => Ok(Subject::Bytes(words.limits()?)),
+        "stores" => Ok(Subject::Stores(Box::new(alloc, Stores::new(alloc))?)),
+        "decoders" => new_decoders(alloc, words),
         "session" => new_books(alloc, words),
         "loaded" => loaded_books(alloc, words),
         "form" => new_form(alloc, words),
@@ -39,6 +57,11 @@ pub(crate) fn new_subject(alloc: Global, words: &mut Words<'_>) -> Result<Subjec
         "queue" => Ok(Subject::Queue(ByteQueue::new(alloc))),
         _ => Err(Wrong::Words),
     }
+}
+
+fn new_decoders(alloc: Global, words: &mut Words<'_>) -> Result<Subject, Wrong> {
+    let decoders = Decoders::new(alloc, words.limits()?);
+    Ok(Subject::Decoders(Box::new(alloc, decoders)?))
 }
 
 fn new_books(alloc: Global, words: &mut Words<'_>) -> Result<Subject, Wrong> {
@@ -113,6 +136,11 @@ impl Subject {
         }
         match self {
             Subject::Nothing => Err(Wrong::Words),
+            Subject::Values => values::tell(alloc, words, told),
+            Subject::Packets => encoding::tell(alloc, words, told),
+            Subject::Bytes(limits) => limited::tell(alloc, *limits, words, told),
+            Subject::Stores(stores) => stores.tell(alloc, words, told),
+            Subject::Decoders(decoders) => decoders.tell(alloc, words, told),
             Subject::Session(books) => sessions::tell(alloc, books, words, told),
             Subject::Form(form) => forms::tell(alloc, form.as_slice(), words, told),
             Subject::Client(client) => clients::tell(alloc, client, moment, words, told),
@@ -142,7 +170,7 @@ impl Subject {
             Subject::Session(books) => Some(&books.session),
             Subject::Client(client) => client.session(),
             Subject::Server(server) => server.session(),
-            Subject::Nothing | Subject::Form(_) | Subject::Queue(_) => None,
+            _ => None,
         }
     }
 
@@ -157,11 +185,11 @@ impl Subject {
 
     pub(crate) fn see(&mut self, written: Option<usize>, seen: &mut String) -> Result<(), Wrong> {
         match self {
-            Subject::Nothing | Subject::Form(_) => Ok(()),
             Subject::Session(books) => sessions::see(&books.session, seen),
             Subject::Client(client) => clients::see(client, written, seen),
             Subject::Server(server) => servers::see(server, written, seen),
             Subject::Queue(queue) => queues::see(queue, seen),
+            _ => Ok(()),
         }
     }
 }

@@ -95,10 +95,7 @@ impl<'a> Walk<'a> {
 
     fn tell_wrong(&self, rt: &impl Print, line: &str, wrong: Wrong) -> io::Result<()> {
         let (number, remark) = (self.counts.lines, self.remark);
-        println!(rt;
-            "line {number}: {remark}\n  {line}\n  wrong: {}",
-            wrong.text()
-        )
+        println!(rt; "line {number}: {remark}\n  {line}\n  wrong: {wrong}")
     }
 
     fn walk_line(&mut self, rt: &impl Print, alloc: Global, line: &'a str) -> io::Result<()> {

@@ -4,17 +4,7 @@ use crate::wrong::Wrong;
 use mq_decode::Limits;
 use mq_packet::PacketId;
 use mq_topic::Qos;
-use std::str::SplitWhitespace;
-
-/// The quality of service of a word.
-pub(crate) fn qos_of(word: &str) -> Result<Qos, Wrong> {
-    match word {
-        "0" => Ok(Qos::Q0),
-        "1" => Ok(Qos::Q1),
-        "2" => Ok(Qos::Q2),
-        _ => Err(Wrong::Words),
-    }
-}
+use std::str::{FromStr, SplitWhitespace};
 
 /// The words that remain, with a space between each two.
 #[derive(Clone, Copy)]
@@ -58,6 +48,7 @@ impl<'a> Words<'a> {
         }
     }
 
+    /// The number behind a word, if this word is the next one.
     pub(crate) fn after(&mut self, word: &str) -> Result<Option<u64>, Wrong> {
         if !self.begin_with(word) {
             return Ok(None);
@@ -65,48 +56,50 @@ impl<'a> Words<'a> {
         Ok(Some(self.number()?))
     }
 
-    /// The number that the next word is.
-    pub(crate) fn number(&mut self) -> Result<u64, Wrong> {
-        self.word()?.parse().ok().ok_or(Wrong::Words)
-    }
-
-    /// A count.
-    pub(crate) fn count(&mut self) -> Result<usize, Wrong> {
-        self.word()?.parse().ok().ok_or(Wrong::Words)
-    }
-
-    /// A number of two bytes.
-    pub(crate) fn short(&mut self) -> Result<u16, Wrong> {
-        self.word()?.parse().ok().ok_or(Wrong::Words)
-    }
-
-    pub(crate) fn short_if_any(&mut self) -> Result<Option<u16>, Wrong> {
-        if self.is_empty() {
-            return Ok(None);
-        }
-        Ok(Some(self.short()?))
-    }
-
-    /// A packet identifier.
-    pub(crate) fn id(&mut self) -> Result<PacketId, Wrong> {
-        PacketId::new(self.short()?).ok_or(Wrong::Words)
-    }
-
-    /// A quality of service.
-    pub(crate) fn qos(&mut self) -> Result<Qos, Wrong> {
-        qos_of(self.word()?)
-    }
-
-    /// The limits with a greatest remaining length.
-    pub(crate) fn limits(&mut self) -> Result<Limits, Wrong> {
-        let most = self.word()?.parse().ok().ok_or(Wrong::Words)?;
-        Limits::new(most).ok_or(Wrong::Words)
-    }
-
     /// All that remain.
     pub(crate) fn rest(&mut self) -> SplitWhitespace<'a> {
         let left = self.left;
         self.left = "";
         left.split_whitespace()
+    }
+
+    /// The number of the next word.
+    pub(crate) fn number<N: FromStr + Drop>(&mut self) -> Result<N, Wrong>
+    where
+        N::Err: Drop,
+    {
+        self.word()?.parse().ok().ok_or(Wrong::Words)
+    }
+
+    /// A number of two bytes, if a word is left.
+    pub(crate) fn short_if_any(&mut self) -> Result<Option<u16>, Wrong> {
+        if self.is_empty() {
+            return Ok(None);
+        }
+        Ok(Some(self.number()?))
+    }
+
+    /// A bit, 0 or 1.
+    pub(crate) fn bit(&mut self) -> Result<bool, Wrong> {
+        Ok(self.word()? == "1")
+    }
+
+    /// A packet identifier.
+    pub(crate) fn id(&mut self) -> Result<PacketId, Wrong> {
+        PacketId::new(self.number()?).ok_or(Wrong::Words)
+    }
+
+    /// A quality of service.
+    pub(crate) fn qos(&mut self) -> Result<Qos, Wrong> {
+        Qos::from_number(self.number()?).ok_or(Wrong::Words)
+    }
+
+    /// The limits with a greatest remaining length: `64`, or `lenient 64`.
+    pub(crate) fn limits(&mut self) -> Result<Limits, Wrong> {
+        let limits = match self.word()? {
+            "lenient" => Limits::lenient(self.number()?),
+            most => Limits::new(most.parse().ok().ok_or(Wrong::Words)?),
+        };
+        limits.ok_or(Wrong::Words)
     }
 }
