@@ -88,7 +88,6 @@ fn read_snapshot<R: Files<File = File>>(
 }
 
 // Restores the broker of a snapshot and of the journal that it names.
-#[tactic(auto, using(crate::proofs::Opens::found_saved))]
 fn find_saved<R: Files<File = File>>(
     rt: &R,
     alloc: Global,
