@@ -4,7 +4,7 @@ use crate::rows::answer::answer;
 use crate::rows::config::{Kind, config};
 use crate::rows::wrong::Wrong;
 use mq_hub::{Hub, HubEvent, HubOver, SnapshotFault};
-use mq_topic::ListStore;
+use mq_topic::{FilterStore, ListStore};
 use std::alloc::Global;
 
 /// A configuration, and the events at its brokers.
@@ -23,6 +23,15 @@ fn collect_all(alloc: Global, hub: &mut Hub) -> Result<(), Wrong> {
     Ok(())
 }
 
+// These two have no broker to drop, which makes their proofs cheap.
+fn has_snapshot<S: FilterStore>(hub: &HubOver<S>, bytes: &[u8]) -> Result<bool, Wrong> {
+    Ok(hub.save()?.as_slice() == bytes)
+}
+
+fn have_same_snapshot(first: &Hub, second: &Hub) -> Result<bool, Wrong> {
+    has_snapshot(first, second.save()?.as_slice())
+}
+
 // Whether two brokers have the same replies to events, and the same snapshots after each of them.
 fn agree(
     alloc: Global,
@@ -33,7 +42,7 @@ fn agree(
     for event in events {
         let wanted = answer(alloc, first, event)?;
         let found = answer(alloc, second, event)?;
-        if found.as_str() != wanted.as_str() || first.save()? != second.save()? {
+        if found.as_str() != wanted.as_str() || !have_same_snapshot(first, second)? {
             return Ok(false);
         }
     }
@@ -49,6 +58,14 @@ enum Loaded {
     Same,
     /// It has another one.
     Other,
+}
+
+fn reloaded(hub: &Hub, bytes: &[u8]) -> Result<Loaded, Wrong> {
+    Ok(if has_snapshot(hub, bytes)? {
+        Loaded::Same
+    } else {
+        Loaded::Other
+    })
 }
 
 impl History<'_> {
@@ -75,30 +92,38 @@ impl History<'_> {
         let config = config(self.alloc, self.kind)?;
         let store = ListStore::new(self.alloc);
         match HubOver::load_with(self.alloc, config, store, bytes) {
-            Ok(hub) => Ok(hub.save()?.as_slice() == bytes),
+            Ok(hub) => has_snapshot(&hub, bytes),
             Err(_) => Ok(false),
         }
     }
 
-    // Whether the broker after the first events and the one that is loaded from its snapshot agree
-    // on the later events.
-    fn is_kept(&self, count: usize) -> Result<bool, Wrong> {
-        let mut hub = self.broker_after(count)?;
-        collect_all(self.alloc, &mut hub)?;
+    // Whether a broker and the one that is loaded from its snapshot agree on later events.
+    fn agrees(&self, hub: &mut Hub, bytes: &[u8], later: &[HubEvent]) -> Result<bool, Wrong> {
+        match self.load(bytes)? {
+            Some(mut loaded) => agree(self.alloc, hub, &mut loaded, later),
+            None => Ok(false),
+        }
+    }
+
+    // Whether a broker is kept by its snapshot. Its pending output is taken before.
+    fn keeps(&self, hub: &mut Hub, later: &[HubEvent]) -> Result<bool, Wrong> {
+        collect_all(self.alloc, hub)?;
         let bytes = hub.save()?;
-        let Some(mut loaded) = self.load(bytes.as_slice())? else {
-            return Ok(false);
-        };
-        let later = self.events.get(count..).unwrap_or(&[]);
         let is_kept = self.is_kept_by_a_list(bytes.as_slice())?;
-        Ok(is_kept && agree(self.alloc, &mut hub, &mut loaded, later)?)
+        Ok(is_kept && self.agrees(hub, bytes.as_slice(), later)?)
+    }
+
+    // Whether the broker after the first events is kept by its snapshot.
+    fn is_kept(&self, count: usize) -> Result<bool, Wrong> {
+        let later = self.events.get(count..).unwrap_or(&[]);
+        let mut hub = self.broker_after(count)?;
+        self.keeps(&mut hub, later)
     }
 
     fn outcome(&self, bytes: &[u8]) -> Result<Loaded, Wrong> {
         match self.load(bytes)? {
             None => Ok(Loaded::Refused),
-            Some(hub) if hub.save()?.as_slice() == bytes => Ok(Loaded::Same),
-            Some(_) => Ok(Loaded::Other),
+            Some(hub) => reloaded(&hub, bytes),
         }
     }
 }
