@@ -56,13 +56,13 @@ fn keep_of(keep: Durability) -> Keep
 }
 
 // The options of the folder.
-fn store_options(data: DataFolder<'_>) -> StoreOptions
-    ensures keep { result.keep ≡ keep_of data.keep }
-    ensures size { result.journal_size ≡ data.journal_size }
+fn store_options(folder: DataFolder<'_>) -> StoreOptions
+    ensures keep { result.keep ≡ keep_of folder.entry.keep }
+    ensures size { result.journal_size ≡ folder.entry.journal_size }
 {
     StoreOptions {
-        keep: keep_of(data.keep),
-        journal_size: u64::from(data.journal_size),
+        keep: keep_of(folder.keep),
+        journal_size: u64::from(folder.journal_size),
     }
 }
 
