@@ -1,7 +1,7 @@
 //! Wakers of workers that are waiting at their connections.
 
-ghost use Rattle.std.specs.Prelude.{◌≡◌};
-ghost use Rattle.mq_serve.specs.Wakers.{after_act, after_acts, call_if, serves};
+ghost use Rattle.std.specs.Prelude.{◌≡◌, ◌<◌, ℕ, IfOk, length, slice_index_or, vec_len};
+ghost use Rattle.mq_serve.specs.Wakers.{after_act, after_acts, call_if, must_wake, serves, uncalled, vacant};
 
 use crate::read_order::{ReadOrder, ReadSeat};
 use mio::Waker;
@@ -9,6 +9,7 @@ use mq_book::StepObserver;
 use mq_route::{Act, HubReply};
 use mq_topic::ClientKey;
 use std::alloc::{AllocError, Global};
+use std::marker::Model;
 use std::sync::{Mutex, Wait};
 
 // A worker: the client that it serves, and whether it must be woken.
@@ -18,21 +19,37 @@ struct Seat {
     is_called: bool,
 }
 
+const VACANT: Seat = Seat {
+    client: None,
+    is_called: false,
+};
+
 /// The wakers of all workers, and the clients that these serve.
 #[derive(Drop)]
 pub struct Wakers {
-    clients: Mutex<Vec<Option<ClientKey>>>,
+    seats: Mutex<Vec<Seat>>,
     order: Mutex<ReadOrder>,
     wakers: Vec<Waker>,
 }
 
+impl Model for Wakers {
+    ghost use Rattle.std.specs.Prelude.{ℕ, vec_len};
+
+    // the number of workers
+    ghost Value = { ℕ };
+
+    ghost view = { λ w. vec_len w.wakers };
+}
+
 impl Wakers {
     /// The wakers of workers, in the order of their numbers. No worker serves a client yet.
-    pub fn new(alloc: Global, wakers: Vec<Waker>) -> Result<Wakers, AllocError> {
-        let clients = vec![in alloc; None; wakers.len()]?;
+    pub fn new(alloc: Global, wakers: Vec<Waker>) -> Result<Wakers, AllocError>
+        ensures { IfOk result (λ all. all ≡ vec_len wakers) }
+    {
+        let seats = vec![in alloc; VACANT; wakers.len()]?;
         let order = ReadOrder::new(alloc, wakers.len())?;
         Ok(Wakers {
-            clients: Mutex::new(clients),
+            seats: Mutex::new(seats),
             order: Mutex::new(order),
             wakers,
         })
@@ -42,19 +59,25 @@ impl Wakers {
 /// A worker's access to the order in which workers pass on the bytes that they read.
 #[derive(Clone, Copy)]
 pub struct ReadTurns<'a> {
-    wakers: &'a Wakers,
-    worker: u16,
+    /// The wakers of all workers.
+    pub wakers: &'a Wakers,
+    /// The number of the worker.
+    pub worker: u16,
 }
 
 impl<'a> ReadTurns<'a> {
     /// The access of this worker.
-    pub fn new(wakers: &'a Wakers, worker: u16) -> ReadTurns<'a> {
+    pub fn new(wakers: &'a Wakers, worker: u16) -> ReadTurns<'a>
+        ensures { result.worker ≡ worker }
+    {
         ReadTurns { wakers, worker }
     }
 
     /// The worker accepted a connection. Returns its number. Must be called before another worker
     /// accepts a connection.
-    pub fn accept<R: Wait>(&self, rt: &R) -> u64 {
+    pub fn accept<R: Wait>(&self, rt: &R) -> u64
+        ensures { 0 < result }
+    {
         self.wakers.order.lock(rt).accept(self.worker)
     }
 
@@ -120,25 +143,48 @@ impl StepObserver for WakeOthers<'_> {
         if acts.is_empty() {
             return;
         }
-        let mut clients = self.0.clients.lock(rt);
-        wake(&mut clients, &self.0.wakers, worker, acts);
+        let mut seats = self.0.seats.lock(rt);
+        note_acts(&mut seats, acts);
+        wake(&seats, &self.0.wakers, worker);
     }
 }
 
-// Wakes the workers that must be woken after a step, except the one that made it.
-fn wake(clients: &mut [Option<ClientKey>], wakers: &[Waker], stepped: u16, acts: &[Act]) {
-    for (number, (client, waker)) in clients.iter_mut().zip(wakers).enumerate() {
-        let before = Seat {
-            client: client.take(),
-            is_called: false,
-        };
-        let seat = after_acts(before, number, acts);
-        *client = seat.client;
-        if seat.is_called && number != usize::from(stepped) {
+// Each worker serves the client, and is called, as these acts say.
+fn note_acts(seats: &mut [Seat], acts: &[Act])
+    ensures { (number : ℕ) → number < length seats.old → slice_index_or seats.new number vacant
+        ≡ after_acts number acts.now (uncalled (slice_index_or seats.old number vacant)) }
+{
+    for number in 0..seats.len() {
+        let before = uncalled(&seats[number]);
+        seats[number] = after_acts(before, number, acts);
+    }
+}
+
+// The worker is not called.
+fn uncalled(seat: &Seat) -> Seat
+    ensures { result ≡ uncalled seat.now }
+{
+    Seat {
+        client: seat.client,
+        is_called: false,
+    }
+}
+
+// Wakes the workers that are called, except the one that made the step.
+fn wake(seats: &[Seat], wakers: &[Waker], stepped: u16) {
+    for (number, (seat, waker)) in seats.iter().zip(wakers).enumerate() {
+        if must_wake(seat, number, stepped) {
             // A worker that can't be woken looks for output when its read times out.
             let _ = waker.wake();
         }
     }
+}
+
+// Whether the worker with this number must be woken after a step of another one.
+fn must_wake(seat: &Seat, number: usize, stepped: u16) -> bool
+    ensures { result ≡ must_wake seat.now number stepped }
+{
+    seat.is_called && number != usize::from(stepped)
 }
 
 // The worker with this number after these acts.
