@@ -1,6 +1,8 @@
 //! A broker and the clients of a loopback file, in threads.
 
-ghost use Rattle.std.specs.Prelude.{◌≡◌, ◌<◌, ◌≤◌, length, vec_len, IfOk};
+ghost use Rattle.std.specs.Prelude.{◌≡◌, ◌<◌, ◌≤◌, length, vec_len, IfOk, None, Ok};
+ghost use Rattle.mq_book.specs.Pages.{journal_of};
+ghost use Rattle.mq_loopback.specs.Program.{IsPlayed};
 
 use crate::client::Client;
 use crate::client_threads::ClientThreads;
@@ -96,6 +98,7 @@ where
 fn open_rig<R>(rt: &R, alloc: Global, count: u16) -> io::Result<Rig>
 where
     R: Net<Listener = TcpListener, Stream = TcpStream>,
+    ensures { IfOk result (λ rig. vec_len rig.streams ≡ count) }
 {
     let listener = TcpListener::bind(rt, (Ipv4Addr::LOCALHOST, 0))?;
     let address = listener.local_addr()?;
@@ -132,6 +135,9 @@ where
     requires parts { blank.parts ≡ L.parts }
     requires each { blank.parts ≡ workers }
     requires some { (0 < workers) × (workers ≤ 64) }
+    requires clients { length clients.now ≡ workers }
+    requires streams { vec_len rig.streams ≡ workers }
+    ensures { IfOk result (IsPlayed clients.now) }
 {
     let start = match Instant::now(rt) {
         Ok(start) => start,
@@ -150,7 +156,9 @@ where
 fn collected_by(
     fault: Option<ClientError>,
     collected: Result<Vec<Vec<Message>>, AllocError>,
-) -> Result<Vec<Vec<Message>>, RunError> {
+) -> Result<Vec<Vec<Message>>, RunError>
+    ensures fault { IfOk result (λ lists. (fault ≡ None) × (collected ≡ Ok lists)) }
+{
     match fault {
         Some(fault) => Err(RunError::Client(fault)),
         None => Ok(collected?),
@@ -165,6 +173,7 @@ fn ended<L: Ledger>(
 ) -> Result<RunResult, RunError>
     requires all { IfOk served (λ s. vec_len s ≡ L.parts) }
     requires some { 0 < L.parts }
+    ensures { IfOk result (λ run. (collected ≡ Ok run.collected) × (vec_len run.receipts ≡ L.parts)) }
 {
     let closed = hall.close(served?)?;
     left(closed, collected)
@@ -174,7 +183,11 @@ fn ended<L: Ledger>(
 fn left<L: Ledger>(
     closed: FinishedServer<L>,
     collected: Result<Vec<Vec<Message>>, RunError>,
-) -> Result<RunResult, RunError> {
+) -> Result<RunResult, RunError>
+    ensures collected { IfOk result (λ run. collected ≡ Ok run.collected) }
+    ensures receipts { IfOk result (λ run. run.receipts ≡ closed.receipts) }
+    ensures journal { IfOk result (λ run. run.journal ≡ journal_of closed.book) }
+{
     let FinishedServer { mut book, receipts } = closed;
     match collected {
         Ok(collected) => Ok(RunResult {
@@ -192,6 +205,7 @@ pub fn play<R>(rt: &R, alloc: Global, clients: &[Client]) -> Result<RunResult, R
 where
     R: Net<Listener = TcpListener, Stream = TcpStream> + Threads + Wait + Clock + Sync,
     requires { (0 < length clients.now) × (length clients.now ≤ 64) }
+    ensures { IfOk result (IsPlayed clients.now) }
 {
     let workers = clients.len() as u16;
     let rig = match open_rig(rt, alloc, workers) {

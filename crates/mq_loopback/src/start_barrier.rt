@@ -1,5 +1,8 @@
 //! When publishers start.
 
+ghost use Rattle.std.specs.Prelude.{◌≡◌, ◌↔◌, ◌-◌, IsTrue};
+ghost use Rattle.mq_loopback.specs.Barrier.{IsPending, first_fault};
+
 use mq_client::ClientError;
 use std::sync::{Condvar, Mutex, Wait};
 
@@ -12,17 +15,23 @@ struct Waiting {
 
 impl Waiting {
     // Whether publishers are to wait on.
-    fn is_pending(&self) -> bool {
+    fn is_pending(&self) -> bool
+        ensures { IsTrue result ↔ IsPending self.now }
+    {
         self.left > 0 && self.fault.is_none()
     }
 
     // One collector more is subscribed.
-    fn count(&mut self) {
+    fn count(&mut self)
+        ensures { self.new ≡ record self.old { left = self.old.left - 1 } }
+    {
         self.left = self.left.saturating_sub(1);
     }
 
     // A client has a fault. The first one stays.
-    fn call_off(&mut self, fault: ClientError) {
+    fn call_off(&mut self, fault: ClientError)
+        ensures { self.new ≡ record self.old { fault = first_fault self.old.fault fault } }
+    {
         if self.fault.is_none() {
             self.fault = Some(fault);
         }
