@@ -1,4 +1,5 @@
 pub mod Summaries
+pub mod Records
 pub mod Rows
 pub mod Lanes
 pub mod Texts

@@ -1,0 +1,6 @@
+use Rattle.std.proofs.Common.{take, flat_map}
+use Rattle.mq_picture.specs.Records.{Records, happening_entries}
+use Rattle.mq_picture.proofs.record.Recorder.all_happened.Given as goal
+
+abbrev pub invariant-loop-happening : goal.invariant-loop-happening
+invariant-loop-happening l = Records l.initial.self l.self (flat_map (happening_entries l.side) (take l.happening-index l.happenings))
