@@ -1,2 +1,3 @@
 mod Begins
 mod Inputs
+mod Counting

@@ -16,6 +16,7 @@ use mq_topic::ClientKey;
 use std::alloc::Global;
 use std::io;
 use std::io::Write;
+use std::marker::Model;
 use std::net::SocketAddr;
 
 /// The lines of a log.
@@ -37,9 +38,19 @@ pub struct Log<W: Write> {
     level: LogLevel,
 }
 
+impl<W: Write> Model for Log<W> {
+    ghost use Rattle.mq_broker.specs.Lines.{LogState};
+
+    ghost Value = { LogState };
+
+    ghost view = { λ l. record { written = W.contents l.output; level = l.level } };
+}
+
 impl<W: Write> Log<W> {
     /// A log that writes to `output`.
-    pub fn new(alloc: Global, output: W, level: LogLevel) -> Log<W> {
+    pub fn new(alloc: Global, output: W, level: LogLevel) -> Log<W>
+        ensures { result ≡ record { written = W.contents output; level = level } }
+    {
         Log {
             alloc,
             output,
