@@ -78,26 +78,30 @@ impl<'a> ReadTurns<'a> {
     pub fn accept<R: Wait>(&self, rt: &R) -> u64
         ensures { 0 < result }
     {
-        self.wakers.order.lock(rt).accept(self.worker)
+        let wakers = self.wakers;
+        wakers.order.lock(rt).accept(self.worker)
     }
 
     /// The connection of the worker ended. Wakes the workers that wait for their turn.
     pub fn leave<R: Wait>(&self, rt: &R) {
-        let mut order = self.wakers.order.lock(rt);
+        let wakers = self.wakers;
+        let mut order = wakers.order.lock(rt);
         order.leave(self.worker);
-        wake_waiting(order.seats(), &self.wakers.wakers);
+        wake_waiting(order.seats(), &wakers.wakers);
     }
 
     /// A read of the worker left nothing. Wakes the workers that wait for their turn.
     pub fn note_empty<R: Wait>(&self, rt: &R) {
-        let mut order = self.wakers.order.lock(rt);
+        let wakers = self.wakers;
+        let mut order = wakers.order.lock(rt);
         order.note_empty(self.worker);
-        wake_waiting(order.seats(), &self.wakers.wakers);
+        wake_waiting(order.seats(), &wakers.wakers);
     }
 
     /// Whether the first bytes of this connection may be passed on. If not, the worker waits.
     pub fn is_turn<R: Wait>(&self, rt: &R, number: u64) -> bool {
-        let mut order = self.wakers.order.lock(rt);
+        let wakers = self.wakers;
+        let mut order = wakers.order.lock(rt);
         let is_turn = order.is_turn(number);
         order.set_waiting(self.worker, !is_turn);
         is_turn
@@ -105,8 +109,9 @@ impl<'a> ReadTurns<'a> {
 
     /// Wakes the other workers that serve a connection, so that they read it.
     pub fn wake_readers<R: Wait>(&self, rt: &R) {
-        let order = self.wakers.order.lock(rt);
-        let seats = order.seats().iter().zip(&self.wakers.wakers);
+        let wakers = self.wakers;
+        let order = wakers.order.lock(rt);
+        let seats = order.seats().iter().zip(&wakers.wakers);
         for (number, (seat, waker)) in seats.enumerate() {
             if seat.connection.is_some() && number != usize::from(self.worker) {
                 // A worker that can't be woken reads when its wait times out.
@@ -117,7 +122,8 @@ impl<'a> ReadTurns<'a> {
 
     /// The worker waits no more for its turn.
     pub fn give_up<R: Wait>(&self, rt: &R) {
-        self.wakers.order.lock(rt).set_waiting(self.worker, false);
+        let wakers = self.wakers;
+        wakers.order.lock(rt).set_waiting(self.worker, false);
     }
 }
 
@@ -143,9 +149,10 @@ impl StepObserver for WakeOthers<'_> {
         if acts.is_empty() {
             return;
         }
-        let mut seats = self.0.seats.lock(rt);
+        let wakers = self.0;
+        let mut seats = wakers.seats.lock(rt);
         note_acts(&mut seats, acts);
-        wake(&seats, &self.0.wakers, worker);
+        wake(&seats, &wakers.wakers, worker);
     }
 }
 
