@@ -32,7 +32,7 @@ enum Part {
 
 // Parts, and changes after which they are malformed: a place and a byte.
 const PARTS: [(Part, &[u8], &[(usize, u8)]); 7] = [
-    // The number of rows, a byte that is no UTF-8, a `+` beside a letter, QoS 3.
+    // The number of rows, a byte that is no UTF-8, a `+` next to a letter, QoS 3.
     (
         Part::Rows,
         b"\0\0\0\0\0\0\0\x02\
