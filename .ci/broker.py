@@ -448,6 +448,49 @@ def full_bytes(program):
             back.ping()
 
 
+def large_copies(program):
+    """Each subscriber gets its copy of a large message: payload, quality of service, identifier."""
+    with Broker(program) as broker, contextlib.ExitStack() as stack:
+        clients = [stack.enter_context(Client(broker, f"s{nth}")) for nth in range(9)]
+        for nth, client in enumerate(clients):
+            client.subscribe("t", nth % 3)
+        publisher = stack.enter_context(Client(broker, "p"))
+        # The identifiers of the last client are one ahead.
+        clients[-1].subscribe("u", 1)
+        publisher.send(publish("u", b"x", 1, 1))
+        publisher.expect(0x40)
+        identifiers = [0] * 8 + [1]
+        assert clients[-1].expect(0x30) == text("u") + b"\0\1x"
+        clients[-1].send(b"\x40\2\0\1")
+        for burst in (1, 3):
+            for size in (4_095, 4_096, 65_536, 300_000):
+                payloads = [os.urandom(size) for _ in range(3 * burst)]
+                for nth, payload in enumerate(payloads):
+                    publisher.send(publish("t", payload, nth % 3, nth + 1))
+                for nth in range(len(payloads)):
+                    if nth % 3:
+                        assert publisher.expect(0x40 if nth % 3 == 1 else 0x50) == bytes([0, nth + 1])
+                for nth in range(2, len(payloads), 3):
+                    publisher.send(bytes([0x62, 2, 0, nth + 1]))
+                    publisher.expect(0x70)
+                for at, client in enumerate(clients):
+                    used = []
+                    for nth, payload in enumerate(payloads):
+                        qos = min(nth % 3, at % 3)
+                        found = client.packet()
+                        identifiers[at] += qos > 0
+                        identifier = identifiers[at].to_bytes(2, "big") if qos else b""
+                        assert found[0] == 0x30 | qos << 1, (at, nth, found[0])
+                        assert found[1] == text("t") + identifier + payload, (at, nth, size)
+                        used += [(qos, identifier)] if qos else []
+                    for qos, identifier in used:
+                        client.send(bytes([0x40 if qos == 1 else 0x50, 2]) + identifier)
+                        if qos == 2:
+                            assert client.expect(0x60) == identifier
+                            client.send(b"\x70\2" + identifier)
+                    client.ping()
+
+
 def expiring(program):
     """The session of an absent client expires, and that of a connected one does not."""
     with Broker(program, "--session-expiry", "1") as broker, contextlib.ExitStack() as stack:
@@ -648,8 +691,8 @@ def rows(program):
 
 TESTS = [
     arguments, many_connections, too_many_connections, no_descriptor, silent_reader, leaving,
-    silent_connections, late_connects, broad_subscribe, missed_messages, full_session, full_bytes, expiring,
-    endless_publisher, passwords, metrics, rows,
+    silent_connections, late_connects, broad_subscribe, missed_messages, full_session, full_bytes,
+    large_copies, expiring, endless_publisher, passwords, metrics, rows,
 ]
 
 

@@ -20,6 +20,7 @@ ghost use Rattle.mq_flow.specs.SavedTwo.{saved_form_two};
 use crate::config::ClientConfig;
 use crate::endpoint::Endpoint;
 use crate::output::Output;
+use crate::prepared::PreparedMessage;
 use crate::progress::Progress;
 use crate::queue::ByteQueue;
 use crate::reason::CloseReason;
@@ -237,7 +238,7 @@ impl ClientEnd {
         ensures config { self.new.config ≡ self.old.config }
         ensures err { OnErr result (self.new ≡ self.old) }
     {
-        self.link.publish(message)
+        self.link.publish(PreparedMessage::new(message))
     }
 
     /// Subscribes. Returns the packet identifier of the SUBSCRIBE, which is in use until its SUBACK

@@ -5,7 +5,9 @@
 //! The definitions are in `specs/`; this crate has the words that they share with the code.
 #![tactic(auto)]
 
+mod block;
 mod boxed_list;
+mod buffer;
 mod client;
 mod config;
 mod deadline;
@@ -17,6 +19,7 @@ mod laws;
 mod output;
 mod packet_outcome;
 mod packets;
+mod prepared;
 mod progress;
 mod progress_builder;
 mod publish;
@@ -45,6 +48,7 @@ pub use crate::laws::{
     closing_laws, keep_alive_laws, ready_laws, size_laws, sound_laws, window_laws,
 };
 pub use crate::packet_outcome::PacketOutcome;
+pub use crate::prepared::PreparedMessage;
 pub use crate::progress::Progress;
 pub use crate::publish_outcome::PublishOutcome;
 pub use crate::queue::ByteQueue;

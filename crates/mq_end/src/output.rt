@@ -1,38 +1,53 @@
 //! Pending output.
 
-ghost use Rattle.std.specs.Prelude.{◌≡◌, ℕ, ◌+◌, ◌-◌, ◌<◌, ◌≤◌, ◌^◌, List, [], ◌++◌, length, drop, take, true, IsOk, IfOk, OnOk, OnErr};
+ghost use Rattle.std.specs.Prelude.{◌≡◌, ℕ, ◌+◌, ◌-◌, ◌<◌, ◌≤◌, ◌^◌, List, [], ◌++◌, length, drop, take, true, None, IsOk, IfOk, IfSome, OnOk, OnErr};
 ghost use Rattle.mq_packet.specs.Publication.{fits_delivery};
 ghost use Rattle.mq_packet.specs.Encoding.{Encodes, fields};
 ghost use Rattle.mq_end.specs.Ready.{whole_size};
+ghost use Rattle.mq_end.specs.Waiting.{pending};
 
+use crate::block::Block;
+use crate::buffer::Buffer;
 use bytes::Bytes;
-use mq_packet::{Delivery, Message, Packet, encode_into, encode_publish_into};
-use mq_wire::length_laws;
+use mq_packet::{Delivery, Message, Packet};
 use std::alloc::{AllocError, Global};
 use std::marker::Model;
-use std::mem;
 
-/// Pending output, the oldest byte first. Appending and removing bytes costs time in proportion to
-/// these bytes, not to the pending ones. Contracts see the bytes, and how many may be pending
-/// without allocation.
+/// Pending output, the oldest byte first: bytes in a buffer of its own, or one block that other
+/// connections may share. More output after a block copies it into the buffer. Contracts see the
+/// bytes, and how many may be pending without allocation.
 #[derive(Debug, Drop)]
 pub(crate) struct Output {
-    bytes: Vec<u8>,
-    // The number of bytes at the front of the buffer that were removed.
-    gone: usize,
-    // The number of bytes that may be pending without allocation.
-    room: usize,
+    own: Buffer,
+    // All pending bytes, if they are a block. Then the buffer is empty.
+    shared: Option<Block>,
 }
 
 impl Model for Output {
-    ghost use Rattle.std.specs.Prelude.{◌+◌, ◌≤◌, drop, length, vec_capacity};
-    ghost use Rattle.mq_end.specs.Waiting.{Waiting};
+    ghost use Rattle.std.specs.Prelude.{◌≡◌, [], IfSome};
+    ghost use Rattle.mq_end.specs.Waiting.{Waiting, pending};
 
     ghost Value = { Waiting };
 
-    ghost view = { λ o. record { bytes = drop o.gone o.bytes.items; room = o.room } };
+    ghost view = { λ o. record { bytes = pending o.shared o.own.bytes; room = o.own.room } };
 
-    ghost invariant = { λ o. (o.gone ≤ length o.bytes.items) × (o.gone + o.room ≤ vec_capacity o.bytes) };
+    ghost invariant = { λ o. IfSome o.shared (λ _. o.own.bytes ≡ []) };
+}
+
+// Copies a shared block into the buffer. On `Err` nothing changes. Can't fail within the room.
+fn copy_shared(own: &mut Buffer, shared: &mut Option<Block>) -> Result<(), AllocError>
+    requires alone { IfSome shared.old (λ _. own.old.bytes ≡ []) }
+    ensures own { OnOk result (own.new ≡ record own.old { bytes = pending shared.old own.old.bytes }) }
+    ensures shared { OnOk result (shared.new ≡ None) }
+    ensures within { length (pending shared.old own.old.bytes) ≤ own.old.room → IsOk result }
+    ensures err { OnErr result (own.new ≡ own.old) }
+    ensures stays { OnErr result (shared.new ≡ shared.old) }
+{
+    if let Some(block) = shared {
+        own.append(block.as_slice())?;
+        *shared = None;
+    }
+    Ok(())
 }
 
 impl Output {
@@ -41,9 +56,8 @@ impl Output {
         ensures { result ≡ record { bytes = []; room = 0 } }
     {
         Output {
-            bytes: Vec::new(alloc),
-            gone: 0,
-            room: 0,
+            own: Buffer::new(alloc),
+            shared: None,
         }
     }
 
@@ -51,15 +65,20 @@ impl Output {
     pub(crate) fn as_slice(&self) -> &[u8]
         ensures { result.now ≡ self.now.bytes }
     {
-        let (_, rest) = self.bytes.split_at(self.gone);
-        rest
+        match &self.shared {
+            Some(block) => block.as_slice(),
+            None => self.own.as_slice(),
+        }
     }
 
-    /// How many bytes wait.
+    /// The number of pending bytes.
     pub(crate) fn len(&self) -> usize
         ensures { result ≡ length self.now.bytes }
     {
-        self.bytes.len() - self.gone
+        match &self.shared {
+            Some(block) => block.len(),
+            None => self.own.len(),
+        }
     }
 
     /// Reserves room for `more` bytes behind the pending ones. On `Err` nothing changes.
@@ -69,10 +88,13 @@ impl Output {
         ensures rest { self.new ≡ record self.old { room = self.new.room } }
         ensures err { OnErr result (self.new ≡ self.old) }
     {
-        self.bytes.reserve(more)?;
-        let room = self.len() + more;
-        self.room = self.room.max(room);
-        Ok(())
+        let Some(block) = &self.shared else {
+            return self.own.reserve(more);
+        };
+        match block.len().checked_add(more) {
+            Some(size) => self.own.reserve(size),
+            None => Err(AllocError),
+        }
     }
 
     /// Appends bytes. On `Err` nothing changes.
@@ -80,7 +102,8 @@ impl Output {
         ensures ok { OnOk result (self.new ≡ record self.old { bytes = self.old.bytes ++ bytes.now }) }
         ensures err { OnErr result (self.new ≡ self.old) }
     {
-        self.bytes.extend_from_slice(bytes)
+        copy_shared(&mut self.own, &mut self.shared)?;
+        self.own.append(bytes)
     }
 
     /// Appends the encoding of a packet (chapter 3). On `Err` nothing changes: the packet is too
@@ -92,11 +115,8 @@ impl Output {
             → length self.old.bytes + whole_size (length (fields packet.now)) ≤ self.old.room → IsOk result }
         ensures err { OnErr result (self.new ≡ self.old) }
     {
-        length_laws();
-        match encode_into(packet, &mut self.bytes) {
-            Ok(()) => Ok(()),
-            Err(_) => Err(AllocError),
-        }
+        copy_shared(&mut self.own, &mut self.shared)?;
+        self.own.append_packet(packet)
     }
 
     /// Appends the encoding of a PUBLISH of a borrowed message (3.3). `delivery` must be given
@@ -115,26 +135,55 @@ impl Output {
             → length self.old.bytes + whole_size (length (fields packet)) ≤ self.old.room → IsOk result }
         ensures err { OnErr result (self.new ≡ self.old) }
     {
-        length_laws();
-        match encode_publish_into(message, delivery, &mut self.bytes) {
-            Ok(()) => Ok(()),
-            Err(_) => Err(AllocError),
+        copy_shared(&mut self.own, &mut self.shared)?;
+        self.own.append_publish(message, delivery)
+    }
+
+    /// Makes a block the pending output. Nothing must be pending.
+    pub(crate) fn share(&mut self, block: Block)
+        requires { self.old.bytes ≡ [] }
+        ensures { self.new ≡ record self.old { bytes = self.old.bytes ++ block } }
+    {
+        self.own.clear();
+        self.shared = Some(block);
+    }
+
+    /// Appends the encoding of a PUBLISH, as [`append_publish`](Output::append_publish) does. Uses
+    /// a block that has this encoding if one is given and nothing is pending.
+    pub(crate) fn append_encoded(
+        &mut self,
+        message: &Message,
+        delivery: Option<Delivery>,
+        block: Option<Block>,
+    ) -> Result<(), AllocError>
+        requires fits { fits_delivery message.now.qos delivery ≡ true }
+        requires encoded { IfSome block (λ b. Encodes (Packet.Publish (record { message = message.now; delivery = delivery })) b) }
+        ensures ok { let packet = Packet.Publish (record { message = message.now; delivery = delivery }) in OnOk result
+            ((b : List ℕ) × Encodes packet b × (self.new ≡ record self.old { bytes = self.old.bytes ++ b })) }
+        ensures within { let packet = Packet.Publish (record { message = message.now; delivery = delivery }) in
+            length (fields packet) < 2 ^ 28
+            → length self.old.bytes + whole_size (length (fields packet)) ≤ self.old.room → IsOk result }
+        ensures err { OnErr result (self.new ≡ self.old) }
+    {
+        match block {
+            Some(block) if self.len() == 0 => {
+                self.share(block);
+                Ok(())
+            }
+            _ => self.append_publish(message, delivery),
         }
     }
 
     /// Removes bytes from the front, and the room that they had.
-    #[tactic(auto, using(crate::proofs::Outputs::moved_up))]
     pub(crate) fn take(&mut self, count: usize)
         requires { count ≤ length self.old.bytes }
         ensures { self.new ≡ record { bytes = drop count self.old.bytes; room = self.old.room - count } }
     {
-        self.gone += count;
-        self.room = self.room.saturating_sub(count);
-        let left = self.bytes.len() - self.gone;
-        if left <= self.gone {
-            self.bytes.copy_within(self.gone.., 0);
-            self.bytes.truncate(left);
-            self.gone = 0;
+        if let Some(block) = &mut self.shared {
+            block.advance(count);
+            self.own.forget_some(count);
+        } else {
+            self.own.take(count);
         }
     }
 
@@ -143,15 +192,19 @@ impl Output {
         requires { count ≤ length self.old.bytes }
         ensures { self.new ≡ record self.old { bytes = take count self.old.bytes } }
     {
-        self.bytes.truncate(self.gone + count);
+        if let Some(block) = &mut self.shared {
+            block.truncate(count);
+        } else {
+            self.own.truncate(count);
+        }
     }
 
     /// Removes all bytes. The room stays.
     pub(crate) fn clear(&mut self)
         ensures { self.new ≡ record self.old { bytes = [] } }
     {
-        self.bytes.clear();
-        self.gone = 0;
+        self.shared = None;
+        self.own.clear();
     }
 
     /// Removes and returns all bytes in one shared block, without copying them. On `Err` the bytes
@@ -162,21 +215,12 @@ impl Output {
         ensures none { self.old.bytes ≡ [] → IsOk result }
         ensures err { OnErr result (self.new.bytes ≡ self.old.bytes) }
     {
-        if self.len() == 0 {
-            return Ok(Bytes::new());
-        }
-        self.room = 0;
-        let none = Vec::new(*self.bytes.allocator());
-        match Bytes::from_vec(mem::replace(&mut self.bytes, none)) {
-            Ok(mut bytes) => {
-                bytes.advance(self.gone);
-                self.gone = 0;
-                Ok(bytes)
+        match self.shared.take() {
+            Some(block) => {
+                self.own.free();
+                Ok(block.into_bytes())
             }
-            Err(failed) => {
-                self.bytes = failed.value;
-                Err(AllocError)
-            }
+            None => self.own.take_bytes(),
         }
     }
 
@@ -184,6 +228,6 @@ impl Output {
     pub(crate) fn forget_room(&mut self)
         ensures { self.new ≡ record self.old { room = 0 } }
     {
-        self.room = 0;
+        self.own.forget_room();
     }
 }

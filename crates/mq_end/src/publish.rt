@@ -3,13 +3,17 @@
 ghost use Rattle.std.specs.Prelude.{◌≡◌, ◌+◌, ◌<◌, ◌≤◌, ◌^◌, ℕ, List, [], ◌∷◌, length, true, false, nat_lt, IsOk, IfOk, IfErr, IfSome, IfNone, OnOk, OnErr, Err, None, Some};
 ghost use Rattle.mq_topic.specs.declared.qos.Qos.TheVariants.{Q0};
 ghost use Rattle.mq_flow.specs.Sender.{is_full};
+ghost use Rattle.mq_packet.specs.declared.packet.Packet.TheVariants as packets;
+ghost use Rattle.mq_packet.specs.Encoding.{Encodes};
 ghost use Rattle.mq_end.specs.Both.{publish_refusal, has_identifier, publishes};
 ghost use Rattle.mq_end.specs.Sizes.{publish_size};
 ghost use Rattle.mq_end.specs.State.{PutsOut};
 ghost use Rattle.mq_end.specs.Publishing.{Accepts};
 ghost use Rattle.mq_end.specs.Ready.{HasRoom, size_at_once, whole_size};
 
+use crate::block::Block;
 use crate::endpoint::Endpoint;
+use crate::prepared::PreparedMessage;
 use crate::refusal::PublishRefusal;
 use crate::state::State;
 use mq_packet::{Delivery, Message, PacketId};
@@ -46,9 +50,16 @@ impl Endpoint {
         None
     }
 
-    /// Sends the first PUBLISH of a message if the end is connected.
-    fn send(&mut self, id: PacketId, message: &Message) -> Result<(), AllocError>
-        requires { message.now.qos ≡ Q0 → ⊥ }
+    /// Sends the first PUBLISH of a message if the end is connected; as this block if one is given.
+    fn send(
+        &mut self,
+        id: PacketId,
+        message: &Message,
+        block: Option<Block>,
+    ) -> Result<(), AllocError>
+        requires kept { message.now.qos ≡ Q0 → ⊥ }
+        requires encoded { IfSome block
+            (λ b. Encodes (packets.Publish (record { message = message.now; delivery = Some (record { id = id; dup = false }) })) b) }
         ensures ok { OnOk result (PutsOut (publishes id message.now self.old.end).out self.old.output self.new.output) }
         ensures state { self.new ≡ record self.old { output = self.new.output } }
         ensures within { publish_size message.now < 2 ^ 28
@@ -59,11 +70,11 @@ impl Endpoint {
             return Ok(());
         }
         let delivery = Delivery { id, dup: false };
-        self.output.append_publish(message, Some(delivery))
+        self.output.append_encoded(message, Some(delivery), block)
     }
 
     /// Accepts a message of quality of service 1 or 2 (4.3.2, 4.3.3).
-    fn keep(&mut self, message: Message) -> Result<PacketId, AllocError>
+    fn keep(&mut self, message: PreparedMessage) -> Result<PacketId, AllocError>
         requires kept { message.qos ≡ Q0 → ⊥ }
         requires room { is_full self.old.capacity self.old.end.book ≡ false }
         ensures ok { IfOk result (λ id. Accepts (Some id) message self.old self.new) }
@@ -73,7 +84,8 @@ impl Endpoint {
         let id = self.session.sender.next_id().unwrap();
         let is_up = self.state == State::Connected;
         let before = self.output.len();
-        self.send(id, &message)?;
+        let (message, block) = message.into_parts(Some(Delivery { id, dup: false }));
+        self.send(id, &message, block)?;
         match self.session.sender.accept_as(id, message, is_up) {
             Ok(()) => Ok(id),
             Err(error) => {
@@ -83,27 +95,30 @@ impl Endpoint {
         }
     }
 
-    /// Sends a QoS 0 message (4.3.1).
-    fn send_once(&mut self, message: &Message) -> Result<(), AllocError>
-        requires { message.now.qos ≡ Q0 }
+    /// Sends a QoS 0 message (4.3.1); as this block if one is given.
+    fn send_once(&mut self, message: &Message, block: Option<Block>) -> Result<(), AllocError>
+        requires once { message.now.qos ≡ Q0 }
+        requires encoded { IfSome block
+            (λ b. Encodes (packets.Publish (record { message = message.now; delivery = None })) b) }
         ensures ok { OnOk result (Accepts None message.now self.old self.new) }
         ensures within { publish_size message.now < 2 ^ 28
             → length self.old.output + whole_size (publish_size message.now) ≤ self.old.room.bytes → IsOk result }
         ensures err { OnErr result (self.new ≡ self.old) }
     {
-        self.output.append_publish(message, None)
+        self.output.append_encoded(message, None, block)
     }
 
     /// Publishes a message that is not refused. Returns its identifier if it has one.
-    fn accept(&mut self, message: Message) -> Result<Option<PacketId>, AllocError>
+    fn accept(&mut self, message: PreparedMessage) -> Result<Option<PacketId>, AllocError>
         requires accepted { publish_refusal self.old.limit.most self.old.capacity message self.old.end ≡ None }
         requires most { self.old.limit.most < 2 ^ 28 }
         ensures ok { IfOk result (λ answer. Accepts answer message self.old self.new) }
         ensures within { HasRoom (message ∷ []) 0 self.old → IsOk result }
         ensures err { OnErr result (self.new ≡ self.old) }
     {
-        if message.qos == Qos::Q0 {
-            self.send_once(&message)?;
+        if message.message().qos == Qos::Q0 {
+            let (message, block) = message.into_parts(None);
+            self.send_once(&message, block)?;
             return Ok(None);
         }
         let id = self.keep(message)?;
@@ -111,7 +126,10 @@ impl Endpoint {
     }
 
     /// Publishes a message. Returns its identifier if it has QoS 1 or 2 (2.3.1).
-    pub(crate) fn publish(&mut self, message: Message) -> Result<Option<PacketId>, PublishRefusal>
+    pub(crate) fn publish(
+        &mut self,
+        message: PreparedMessage,
+    ) -> Result<Option<PacketId>, PublishRefusal>
         ensures refused { IfSome (publish_refusal self.old.limit.most self.old.capacity message self.old.end)
             (λ why. result ≡ Err why) }
         ensures memory { IfNone (publish_refusal self.old.limit.most self.old.capacity message self.old.end)
@@ -122,7 +140,7 @@ impl Endpoint {
             → IsOk result × HasRoom rest more self.new }
         ensures err { OnErr result (self.new ≡ self.old) }
     {
-        if let Some(why) = self.publish_refusal(&message) {
+        if let Some(why) = self.publish_refusal(message.message()) {
             return Err(why);
         }
         match self.accept(message) {

@@ -21,6 +21,7 @@ ghost use Rattle.mq_end.specs.declared.state.State.TheVariants as states;
 use crate::config::ServerConfig;
 use crate::endpoint::Endpoint;
 use crate::packet_outcome::PacketOutcome;
+use crate::prepared::PreparedMessage;
 use crate::progress::Progress;
 use crate::publish_outcome::PublishOutcome;
 use crate::queue::ByteQueue;
@@ -292,6 +293,26 @@ impl ServerEnd {
     /// connected. Errors: `NoSession`, `NotConnected` for QoS 0, `TooLarge`, `Full`, `Memory`, in
     /// this order; then nothing changes. Does not fail for lack of memory within the reserved room.
     pub fn publish(&mut self, message: Message) -> Result<Option<PacketId>, PublishRefusal>
+        ensures refused { IfSome (server_publish_refusal self.old.limit.most self.old.capacity message self.old.end)
+            (λ why. result ≡ Err why) }
+        ensures memory { IfNone (server_publish_refusal self.old.limit.most self.old.capacity message self.old.end)
+            (IfErr result (λ why. why ≡ PublishRefusal.Memory)) }
+        ensures ok { IfOk result (λ answer. Accepts answer message self.old self.new) }
+        ensures kept { server_publish_refusal self.old.limit.most self.old.capacity message self.old.end ≡ None
+            → (rest : List Message) (more : ℕ) → HasRoom (message ∷ rest) more self.old
+            → IsOk result × HasRoom rest more self.new }
+        ensures err { OnErr result (self.new ≡ self.old) }
+    {
+        self.publish_prepared(PreparedMessage::new(message))
+    }
+
+    /// Publishes a prepared message to the client, as [`publish`](ServerEnd::publish) does. If it
+    /// has an encoding for this delivery and no output is pending, the encoding becomes the output
+    /// without a copy.
+    pub fn publish_prepared(
+        &mut self,
+        message: PreparedMessage,
+    ) -> Result<Option<PacketId>, PublishRefusal>
         ensures refused { IfSome (server_publish_refusal self.old.limit.most self.old.capacity message self.old.end)
             (λ why. result ≡ Err why) }
         ensures memory { IfNone (server_publish_refusal self.old.limit.most self.old.capacity message self.old.end)

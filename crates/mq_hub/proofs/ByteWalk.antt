@@ -1,5 +1,5 @@
 -- The walk over the bytes of a connection, packet by packet.
-use Rattle.std.proofs.Common.{◌≡◌, ◌⊎◌, ◌∙◌, ℕ, ◌+◌, ◌<◌, ◌≤◌, true, false, List, ◌++◌, [], inl, inr, length, take, drop, refl, sym, ap, subst, append-nil}
+use Rattle.std.proofs.Common.{◌≡◌, ◌⊎◌, ◌∙◌, ℕ, ◌+◌, ◌<◌, true, false, List, ◌++◌, [], inl, inr, length, take, drop, refl, sym, ap, subst, append-nil}
 use Rattle.std.proofs.lemmas.List.{append_assoc, take-append-drop, length-take-le}
 use Rattle.std.proofs.Math.Seq.{take-add, take-length}
 use Rattle.mq_decode.specs.Grammar.{Pending}

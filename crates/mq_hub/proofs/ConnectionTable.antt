@@ -16,7 +16,7 @@ use Rattle.mq_route.specs.Routed.{same_conn}
 use Rattle.mq_route.specs.Welcome.{up_count}
 use Rattle.mq_hub.specs.declared.connections.connection.Connection.{Connection}
 use Rattle.mq_hub.specs.Inside.Alarms.{AlarmTable, AreAwaited}
-use Rattle.mq_hub.specs.Inside.Connections.{connections_of, connection_of, ups_of, up_in, has_key, AreUpOnce, Service, service, IsNamedAt, IsServed, IsServedBy, AreConnections}
+use Rattle.mq_hub.specs.Inside.Connections.{connections_of, connection_of, ups_of, up_in, has_key, AreUpOnce, Service, IsNamedAt, IsServed, IsServedBy, AreConnections}
 
 abbrev pub Entry : Type 0
 Entry = Conn × Connection

@@ -1,5 +1,5 @@
 -- A session stores the time of its client's last disconnect.
-use Rattle.std.proofs.Common.{◌≡◌, ℕ, suc, ◌+◌, ◌<◌, ◌≤◌, Bool, true, false, cond, List, [], ◌∷◌, ◌++◌, length, map, take, drop, set, Option, Some, None, is_some, refl, sym, ap, ap₂, subst, ◌∙◌, arith, eqb, ne_eqb, ltb, true≢false}
+use Rattle.std.proofs.Common.{◌≡◌, ℕ, suc, ◌+◌, ◌<◌, ◌≤◌, Bool, true, false, cond, List, [], ◌∷◌, length, set, Option, Some, None, is_some, refl, sym, ap, ap₂, subst, ◌∙◌, arith, eqb, ne_eqb, ltb}
 use Rattle.std.proofs.lemmas.Bool.{cond-true, cond-false, cond_both, ltb-true, ltb-false}
 use Rattle.std.specs.List.{AllByRecursion}
 use Rattle.std.specs.Str.{bytes_eq}
@@ -23,7 +23,7 @@ use Rattle.mq_hub.specs.Inside.Invariant.{HubInvariant, ConnectionHasSession, Ha
 use Rattle.mq_hub.specs.Inside.Refinement.{Refines}
 use Rattle.mq_hub.specs.Inside.Sessions.{AreAscending, AreBelow, AreDistinct, AreSessions, marked_at, marking, session_at, session_of, sessions_of}
 use Rattle.mq_hub.specs.Inside.TableSteps.{Proceeds}
-use Rattle.mq_hub.specs.Inside.View.{HubTables, all_seen, hub_of, output_of, seen, waiting_by}
+use Rattle.mq_hub.specs.Inside.View.{HubTables, all_seen, hub_of, output_of, waiting_by}
 use Rattle.mq_hub.proofs.ConnectionChange.{stage_seen}
 use Rattle.mq_hub.proofs.InvariantChanges.{kept_by}
 use Rattle.mq_hub.proofs.SessionLemmas.{place}

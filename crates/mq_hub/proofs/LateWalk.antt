@@ -24,7 +24,7 @@ use Rattle.mq_route.specs.declared.connection_state.ConnectionState.TheVariants.
 use Rattle.mq_route.specs.Copies.{will_message}
 use Rattle.mq_route.specs.Hub.{HubState, HubConnection, changed, copies_of, end_of, is_connection, knows, stage_of, up_on, with_end, with_connection}
 use Rattle.mq_route.specs.Routed.{same_conn}
-use Rattle.mq_route.specs.Step.{HubStep, Ticks, expire, expired_keys, has_passed, late_reason, remove_all, told}
+use Rattle.mq_route.specs.Step.{Ticks, expire, expired_keys, has_passed, late_reason, remove_all, told}
 use Rattle.mq_route.specs.Step.Ticks.{Done, InTime, Late}
 use Rattle.mq_route.specs.Work.{Work, begin, close, does, have_room, is_missed, last_will, leaves_behind, place, place_all, publishes_next, put_on, put_where, remove}
 use Rattle.mq_route.specs.Work.{remove_if, said, deliver, shut, shut_down, will_after, with_sessions}

@@ -1,9 +1,8 @@
 -- A broker that is made from a snapshot: numbers, subscriptions, retained messages and sessions.
-use Rattle.std.proofs.Common.{◌≡◌, ℕ, ◌<◌, ◌≤◌, ◌^◌, true, cond, List, [], ◌∷◌, ◌++◌, length, slice_get, Option, Some, None, suc, refl, sym, ap, subst, ◌∙◌, ◌-◌, arith}
-use Rattle.std.specs.List.{AllByRecursion}
+use Rattle.std.proofs.Common.{◌≡◌, ℕ, ◌<◌, ◌≤◌, ◌^◌, true, cond, List, [], ◌∷◌, ◌++◌, length, slice_get, Some, suc, refl, sym, ap, subst, ◌∙◌, ◌-◌, arith}
 use Rattle.std.specs.Option.{is_some}
 use Rattle.mq_topic.specs.declared.qos.Qos.{Qos}
-use Rattle.mq_topic.specs.Rows.{Row, with_row}
+use Rattle.mq_topic.specs.Rows.{with_row}
 use Rattle.mq_packet.specs.declared.message.Message.{Message}
 use Rattle.mq_end.specs.declared.state.State.TheVariants.{Disconnected, Connected}
 use Rattle.mq_end.specs.End.{End, resumed}
@@ -11,8 +10,7 @@ use Rattle.mq_route.specs.declared.config.HubConfig.{HubConfig}
 use Rattle.mq_route.specs.Copies.{kept}
 use Rattle.mq_route.specs.Hub.{HubConnection, is_clean, stage_for, up_on, keep_alive_on}
 use Rattle.mq_hub.specs.declared.sessions.session.BrokerSession.{BrokerSession}
-use Rattle.mq_hub.specs.Inside.Invariant.{ConnectionHasSession, HasSession, HubInvariant, IsWithin, SessionMatchesConnection}
-use Rattle.mq_hub.specs.Inside.Retained.{RetainedTable}
+use Rattle.mq_hub.specs.Inside.Invariant.{HasSession, HubInvariant, IsWithin, SessionMatchesConnection}
 use Rattle.mq_hub.specs.Inside.Sessions.{sessions_of, AreAscending, AreBelow}
 use Rattle.mq_hub.specs.Inside.View.{HubTables, all_seen, hub_of}
 use Rattle.mq_hub.proofs.DeliveryInvariant.{all_kept}

@@ -1,16 +1,15 @@
 -- What a snapshot keeps of a broker.
-use Rattle.std.proofs.Common.{◌≡◌, ℕ, Bool, true, false, cond, List, [], ◌∷◌, map, Option, Some, refl, sym, ap, ap₂, ◌∙◌, true≢false}
+use Rattle.std.proofs.Common.{◌≡◌, ℕ, Bool, true, false, cond, List, [], ◌∷◌, map, Some, refl, sym, ap, ap₂, ◌∙◌, true≢false}
 use Rattle.std.proofs.lemmas.Bool.{cond-true, cond-false}
 use Rattle.std.specs.List.{AllByRecursion}
 use Rattle.std.specs.Option.{is_some}
 use Rattle.mq_end.specs.declared.state.State.TheVariants.{Connected, Disconnected}
 use Rattle.mq_end.specs.End.{End}
 use Rattle.mq_route.specs.declared.config.HubConfig.{HubConfig}
-use Rattle.mq_route.specs.declared.conn.Conn.{Conn}
 use Rattle.mq_route.specs.declared.connection_state.ConnectionState.{ConnectionState}
 use Rattle.mq_route.specs.declared.connection_state.ConnectionState.TheVariants.{AwaitingConnect, ConnectedAs, Closed}
-use Rattle.mq_route.specs.Hub.{HubConnection, HubSession, is_clean, is_for, keep_alive_on, key_on, stage_for, up_on}
-use Rattle.mq_route.specs.Snapshot.{kept_end, kept_session, quiet, quieted, restored}
+use Rattle.mq_route.specs.Hub.{HubConnection, HubSession, is_for, key_on, stage_for, up_on}
+use Rattle.mq_route.specs.Snapshot.{kept_end, kept_session, quiet, restored}
 use Rattle.mq_hub.specs.declared.sessions.session.BrokerSession.{BrokerSession}
 use Rattle.mq_hub.specs.Inside.Invariant.{HubInvariant, SessionMatchesConnection}
 use Rattle.mq_hub.specs.Inside.Sessions.{session_of, sessions_of}

@@ -73,7 +73,7 @@ module _ (g : HubConnection → HubConnection) (s : StaysFor g) where
   up_alike key [] = refl
   up_alike key (x ∷ xs) = λ i. cond (s.client key x i) (Some (s.name x i)) (up_alike key xs i)
 
-  -- what is kept of each state is kept of that of a client's connection
+  -- a property that each state keeps is kept by the state of a client's connection
   stage_alike : {X : Type 0} (p : ConnectionState → X) → ((x : HubConnection) → p (g x).stage ≡ p x.stage) → (key : ℕ) (xs : List HubConnection) → p (stage_for key (map g xs)) ≡ p (stage_for key xs)
   stage_alike p same key [] = refl
   stage_alike p same key (x ∷ xs) =

@@ -1,5 +1,5 @@
 -- Room for messages in the ends of sessions.
-use Rattle.std.proofs.Common.{◌≡◌, ℕ, zero, suc, ◌+◌, ◌-◌, ◌<◌, ◌≤◌, Bool, true, false, cond, not, ◌&&◌, ◌||◌, List, [], ◌∷◌, ◌++◌, map, filter, length, take, drop, get_or, Option, Some, None, IfSome, Result, Ok, Err, OnOk, refl, sym, ap, ap₂, subst, ◌∙◌, arith, eqb, nat_le, eqb-true, eq-eqb, true≢false, zero-add}
+use Rattle.std.proofs.Common.{◌≡◌, ℕ, zero, suc, ◌+◌, ◌-◌, ◌<◌, ◌≤◌, Bool, true, false, cond, ◌&&◌, ◌||◌, List, [], ◌∷◌, ◌++◌, map, filter, length, take, drop, get_or, Option, Some, None, IfSome, Result, Ok, Err, OnOk, refl, sym, ap, ap₂, subst, ◌∙◌, arith, eqb, nat_le, eqb-true, eq-eqb, true≢false, zero-add}
 use Rattle.std.specs.Prelude.{⊤}
 use Rattle.std.proofs.lemmas.Bool.{cond-true, cond-false, ne_eqb, le-leb}
 use Rattle.std.proofs.lemmas.List.Sums.{sum_by-cons}

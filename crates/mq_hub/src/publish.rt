@@ -9,4 +9,5 @@ pub(crate) mod recipients;
 pub(crate) mod reserve;
 pub(crate) mod rules;
 pub(crate) mod settle;
+pub(crate) mod shared_copies;
 pub(crate) mod space;

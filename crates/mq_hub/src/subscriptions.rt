@@ -13,7 +13,7 @@ use std::alloc::{AllocError, Global};
 // A subscription before it was set: its filter, and its quality of service if it existed.
 type Before = (TopicFilter, Option<Qos>);
 
-// Sets a subscription back to what it was.
+// Restores a subscription.
 fn put_back<S: FilterStore>(store: &mut S, key: ClientKey, filter: TopicFilter, qos: Option<Qos>)
     requires { IsThere key filter qos (S.rows store.old) }
     ensures { S.rows store.new ≡ row_back key filter qos (S.rows store.old) }
@@ -28,7 +28,7 @@ fn put_back<S: FilterStore>(store: &mut S, key: ClientKey, filter: TopicFilter, 
     }
 }
 
-// Sets subscriptions back to what they were, the last one first.
+// Restores subscriptions, the last one first.
 fn put_all_back<S: FilterStore>(store: &mut S, key: ClientKey, befores: Vec<Before>)
     requires { AreThere key befores.items (S.rows store.old) }
     ensures { S.rows store.new ≡ rows_back key befores.items (S.rows store.old) }

@@ -1,8 +1,18 @@
 -- A planned delivery, and tables with room for it.
-use Rattle.std.specs.Prelude.{◌≡◌, ℕ, ◌<◌, [], length, IfSome}
+use Rattle.std.specs.Prelude.{◌≡◌, ℕ, ◌<◌, [], length, false, IfSome}
+use Rattle.mq_topic.specs.declared.qos.Qos.TheVariants.{Q0, Q1, Q2}
+use Rattle.mq_packet.specs.declared.message.Message.{Message}
+use Rattle.mq_route.specs.Copies.{copy}
 use Rattle.mq_hub.specs.declared.publish.delivery.DeliveryPlan.{DeliveryPlan}
+use Rattle.mq_hub.specs.declared.publish.shared_copies.SharedCopies.{SharedCopies}
 use Rattle.mq_hub.specs.Inside.Placement.{AreApart, AreReady, AreSameButRoom}
 use Rattle.mq_hub.specs.Inside.View.{HubTables}
+
+-- Each shared copy is the copy of a message for its granted quality of service (3.3.5, 3.8.4).
+pub record AreShared (m : Message) (s : SharedCopies) : Type 0 where
+  pub q0 : IfSome s.at_q0 (λ c. c ≡ copy Q0 false m)
+  pub q1 : IfSome s.at_q1 (λ c. c ≡ copy Q1 false m)
+  pub q2 : IfSome s.at_q2 (λ c. c ≡ copy Q2 false m)
 
 -- The tables are the same, except for room.
 pub record AreTablesAlike (old new : HubTables) : Type 0 where

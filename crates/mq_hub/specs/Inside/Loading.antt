@@ -1,5 +1,5 @@
 -- A broker that is made from a snapshot (3.1.2.4, 4.1, 4.2).
-use Rattle.std.specs.Prelude.{◌≡◌, ℕ, List, [], ◌∷◌, ◌++◌, Option, Some}
+use Rattle.std.specs.Prelude.{◌≡◌, ℕ, List, [], ◌∷◌, ◌++◌, Some}
 use Rattle.std.specs.List.{AllByRecursion}
 use Rattle.mq_end.specs.declared.state.State.TheVariants.{Connected}
 use Rattle.mq_end.specs.State.{EndState}

@@ -28,8 +28,8 @@ use std::alloc::{AllocError, Global};
 use std::collections::HashMap;
 use std::marker::Model;
 
-// Alarms outlive their connections. They are set anew once there are more than twice as many as
-// connections and this number together.
+// Alarms outlive their connections. They are set anew once their number exceeds twice the sum of
+// the number of connections and this number.
 const FEW_ALARMS: usize = 64;
 
 /// The limits of each connection.

@@ -7,6 +7,7 @@ ghost use Rattle.mq_route.specs.declared.act.Act.{Act};
 ghost use Rattle.mq_route.specs.declared.config.HubConfig.{HubConfig};
 ghost use Rattle.mq_route.specs.Work.{all_fit, lacks_room, place_all, retained_copies};
 ghost use Rattle.mq_end.specs.Sizes.{publish_size};
+ghost use Rattle.mq_hub.specs.Inside.DeliveryPlan.{AreShared};
 ghost use Rattle.mq_hub.specs.Inside.Refinement.{Refines};
 ghost use Rattle.mq_hub.specs.Inside.Invariant.{HubInvariant};
 ghost use Rattle.mq_hub.specs.Inside.Placement.{copies_found, is_among, placed_all, AreApart, AreFor, AreReady, AreSameButRoom, AreStillReady, AreUpAlike, Settles};
@@ -14,9 +15,11 @@ ghost use Rattle.mq_hub.specs.Inside.Placement.{placed_acts, with_list, AreHeard
 ghost use Rattle.mq_hub.specs.Inside.View.{HubTables, hub_of};
 
 use crate::connections::table::Connections;
-use crate::publish::recipients::{copy_by, is_hidden_name};
+use crate::publish::recipients::is_hidden_name;
+use crate::publish::shared_copies::SharedCopies;
 use crate::retained::Retained;
 use crate::sessions::table::Sessions;
+use mq_end::PreparedMessage;
 use mq_packet::{Message, Request};
 use mq_route::Act;
 use mq_topic::{ClientKey, FilterStore, Qos};
@@ -24,7 +27,7 @@ use std::alloc::{AllocError, Global};
 use std::slice;
 
 /// A planned copy of a message: the key of the client that it is for, and the message.
-pub(crate) type PlannedCopy = (ClientKey, Message);
+pub(crate) type PlannedCopy = (ClientKey, PreparedMessage);
 
 // Returns a copy for each client that was found, by the greatest quality of service of its matching
 // subscriptions.
@@ -34,14 +37,16 @@ fn copies_found(
     found: Vec<(ClientKey, Qos)>,
     connections: &Connections,
     message: &Message,
+    shared: &SharedCopies,
 ) -> Result<Vec<PlannedCopy>, AllocError>
+    requires { AreShared message.now shared.now }
     ensures { IfOk result (λ copies. copies.items ≡ copies_found connections.now.connections message.now found.items) }
 {
     let mut copies = Vec::new(alloc);
     for (key, qos) in found {
         let is_up = connections.up_on(key).is_some();
-        if let Some(message) = copy_by(message, qos, is_up)? {
-            copies.push((key, message))?;
+        if let Some(copy) = shared.copy_by(message, qos, is_up)? {
+            copies.push((key, copy))?;
         }
     }
     Ok(copies)
@@ -54,6 +59,7 @@ pub(crate) fn copies_of<S: FilterStore>(
     alloc: Global,
     store: &S,
     connections: &Connections,
+    sessions: &Sessions,
     message: &Message,
 ) -> Result<Vec<PlannedCopy>, AllocError>
     ensures copies { IfOk result (λ copies. (h : HubState) → h.rows ≡ S.rows store.now → AreUpAlike h.connections connections.now.connections
@@ -69,7 +75,8 @@ pub(crate) fn copies_of<S: FilterStore>(
     if found.is_empty() {
         return Ok(Vec::new(alloc));
     }
-    copies_found(alloc, found, connections, message)
+    let shared = SharedCopies::new(alloc, message, found.as_slice(), connections, sessions);
+    copies_found(alloc, found, connections, message, &shared)
 }
 
 /// Returns the retained messages for the new subscriptions of a client, request by request
@@ -136,7 +143,13 @@ pub(crate) fn make_room(
     ensures room { sessions.new.room ≡ sessions.old.room }
 {
     for due in copies {
-        if !make_room_for(sessions, most_stored, due.0, slice::from_ref(&due.1), more)? {
+        if !make_room_for(
+            sessions,
+            most_stored,
+            due.0,
+            slice::from_ref(due.1.message()),
+            more,
+        )? {
             return Ok(false);
         }
     }
@@ -150,7 +163,7 @@ fn publish_for(sessions: &mut Sessions, key: ClientKey, messages: Vec<Message>)
     ensures room { sessions.new.room ≡ sessions.old.room }
 {
     for message in messages {
-        sessions.publish(key, message);
+        sessions.publish(key, PreparedMessage::new(message));
     }
 }
 
@@ -197,7 +210,7 @@ pub(crate) fn push_placed(acts: &mut Vec<Act>, copies: &[PlannedCopy]) -> Result
     ensures { OnOk result (acts.new.items ≡ acts.old.items ++ placed_acts copies.now) }
 {
     for due in copies {
-        acts.push(Act::Placed(due.0, due.1.clone()?))?;
+        acts.push(Act::Placed(due.0, due.1.message().clone()?))?;
     }
     Ok(())
 }

@@ -40,7 +40,13 @@ impl<S: FilterStore> Tables<S> {
         ensures due { IfOk result (λ s. (config : HubConfig) (next_key : ℕ) → HubInvariant config next_key self.now
             → publish_size message.now ≤ config.limits.most → AreFor self.now.sessions.list s.copies.items) }
     {
-        let copies = copies_of(alloc, &self.store, &self.connections, message)?;
+        let copies = copies_of(
+            alloc,
+            &self.store,
+            &self.connections,
+            &self.sessions,
+            message,
+        )?;
         let kept = to_retain(message)?;
         Ok(DeliveryPlan {
             kept,

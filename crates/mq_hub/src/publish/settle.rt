@@ -14,7 +14,7 @@ use crate::publish::enqueue::{PlannedCopy, make_room_for};
 use crate::publish::rules::{CopyRules, QueuedAnswer, answer_for};
 use crate::publish::space::{Space, fits_left, has_identifier};
 use crate::sessions::table::Sessions;
-use mq_end::publish_len;
+use mq_end::{PreparedMessage, publish_len};
 use mq_packet::Message;
 use mq_route::Act;
 use mq_topic::ClientKey;
@@ -66,7 +66,7 @@ fn settle_copy(
     rules: CopyRules,
     queued: usize,
     key: ClientKey,
-    message: Message,
+    message: PreparedMessage,
     more: usize,
     settled: &mut SettledCopies,
 ) -> Result<bool, AllocError>
@@ -83,25 +83,26 @@ fn settle_copy(
     ensures still { AreStillReady sessions.old.list sessions.new.list }
     ensures room { sessions.new.room ≡ sessions.old.room }
 {
-    if is_cut(sessions, rules.most_waiting, queued, key, &message) {
-        settled.acts.push(Act::Missed(key, message))?;
+    if is_cut(sessions, rules.most_waiting, queued, key, message.message()) {
+        settled.acts.push(Act::Missed(key, message.into_message()))?;
         return Ok(true);
     }
     if make_room_for(
         sessions,
         rules.most_stored,
         key,
-        slice::from_ref(&message),
+        slice::from_ref(message.message()),
         more,
     )? {
-        settled.acts.push(Act::Placed(key, message.clone()?))?;
+        let placed = message.message().clone()?;
+        settled.acts.push(Act::Placed(key, placed))?;
         settled.kept.push((key, message))?;
         return Ok(true);
     }
     if !rules.drops_copies() {
         return Ok(false);
     }
-    settled.acts.push(Act::Missed(key, message))?;
+    settled.acts.push(Act::Missed(key, message.into_message()))?;
     Ok(true)
 }
 

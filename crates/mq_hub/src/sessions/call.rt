@@ -1,4 +1,4 @@
-//! What a broker asks of the end of a session.
+//! Calls of a broker to the end of a session.
 
 ghost use Rattle.std.specs.Prelude.{◌≡◌, true, Ok, OnOk, OnErr, IsErr};
 ghost use Rattle.mq_end.specs.End.{is_up};
@@ -10,7 +10,7 @@ use mq_end::{PacketOutcome, PublishOutcome, PublishRefusal, ServerEnd, size_laws
 use mq_packet::{Delivery, Message, NonEmpty, Packet, PacketId, SubAckCode, encoding_laws};
 use std::alloc::AllocError;
 
-/// What a broker asks of the end of a session.
+/// A call of a broker to the end of a session.
 #[derive(Drop)]
 pub(crate) enum Call {
     /// Process a whole packet of the client, which came at this time (3.1 to 3.14).
@@ -35,7 +35,7 @@ fn answered(answer: Result<(), PublishRefusal>) -> Result<PacketOutcome, AllocEr
     }
 }
 
-/// Has a connected end do what is asked.
+/// Has a connected end carry out a call.
 #[inline(always)]
 pub(crate) fn serve(end: &mut ServerEnd, call: Call) -> Result<PacketOutcome, AllocError>
     requires up { is_up end.old.end.state ≡ true }

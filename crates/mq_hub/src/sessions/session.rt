@@ -20,9 +20,11 @@ use crate::connect::resume::connect_end;
 use crate::publish::space::{fits_left, has_identifier, left_of, stored_left};
 use crate::sessions::call::{Call, serve, take_publish};
 use bytes::Bytes;
-use mq_end::{ByteQueue, PacketOutcome, PublishOutcome, PublishRefusal, ServerEnd};
+use mq_end::{
+    ByteQueue, PacketOutcome, PreparedMessage, PublishOutcome, PublishRefusal, ServerEnd,
+};
 use mq_flow::{Sender, message_bytes, next_laws};
-use mq_packet::{BoxedConnect, Connect, Delivery, Message, encoding_laws};
+use mq_packet::{BoxedConnect, Connect, Delivery, Message, PacketId, encoding_laws};
 use mq_topic::ClientKey;
 use mq_wire::Text;
 use std::alloc::{AllocError, Global};
@@ -129,7 +131,7 @@ impl BoxedSession {
     }
 
     /// Has the end publish a message for which it has room.
-    pub(crate) fn publish(&mut self, message: Message)
+    pub(crate) fn publish(&mut self, message: PreparedMessage)
         requires { IsReady (message ∷ []) 0 self.old.end }
         ensures session { self.new ≡ record self.old { end = published message self.old.end } }
         ensures left { (rest : List Message) (more : ℕ) → IsReady (message ∷ rest) more self.old.end
@@ -141,7 +143,7 @@ impl BoxedSession {
 }
 
 impl BoxedSession {
-    /// Has the end, which must be connected, do what is asked.
+    /// Has the end, which must be connected, carry out a call.
     #[inline(always)]
     pub(crate) fn serve(&mut self, call: Call) -> Result<PacketOutcome, AllocError>
         requires up { is_up self.old.end.end.state ≡ true }
@@ -218,6 +220,14 @@ pub(crate) fn free_of(end: &ServerEnd) -> usize
     }
 }
 
+/// Returns the identifier of the next message of an end (2.3.1). `None` if none is free.
+pub(crate) fn next_id(end: &ServerEnd) -> Option<PacketId> {
+    match end.session() {
+        Some(session) => session.sender.next_id(),
+        None => None,
+    }
+}
+
 // Whether messages fit in a number of free identifiers, and in a number of bytes to be stored.
 fn fits(free: usize, stored: Option<u64>, messages: &[Message]) -> bool
     ensures { result ≡ (nat_le (count_of messages.now) free && fits_left stored (bytes_of messages.now)) }
@@ -291,7 +301,7 @@ fn detach_end(end: &mut ServerEnd, output: &mut ByteQueue)
     end.dropped();
 }
 
-fn publish_ready(end: &mut ServerEnd, message: Message)
+fn publish_ready(end: &mut ServerEnd, message: PreparedMessage)
     requires { IsReady (message ∷ []) 0 end.old }
     ensures end { end.new ≡ published message end.old }
     ensures left { (rest : List Message) (more : ℕ) → IsReady (message ∷ rest) more end.old
@@ -299,5 +309,5 @@ fn publish_ready(end: &mut ServerEnd, message: Message)
 {
     next_laws();
     encoding_laws();
-    let _ = end.publish(message);
+    let _ = end.publish_prepared(message);
 }

@@ -23,10 +23,12 @@ ghost use Rattle.mq_hub.specs.Inside.Sessions.{marked_at, sessions_of, session_a
 use crate::publish::rules::CopyRules;
 use crate::publish::space::{NO_SPACE, Space, space_of, waiting_left};
 use crate::sessions::call::Call;
-use crate::sessions::session::{BoxedSession, BrokerSession, has_room, stored_of};
+use crate::sessions::session::{BoxedSession, BrokerSession, has_room, next_id, stored_of};
 use bytes::Bytes;
-use mq_end::{ByteQueue, PacketOutcome, PublishOutcome, PublishRefusal, ServerEnd};
-use mq_packet::{BoxedConnect, Connect, Delivery, Message};
+use mq_end::{
+    ByteQueue, PacketOutcome, PreparedMessage, PublishOutcome, PublishRefusal, ServerEnd,
+};
+use mq_packet::{BoxedConnect, Connect, Delivery, Message, PacketId};
 use mq_topic::ClientKey;
 use mq_wire::Text;
 use std::alloc::{AllocError, Global};
@@ -274,6 +276,14 @@ impl Sessions {
         }
     }
 
+    /// Returns the identifier of the next message of a session (2.3.1). `None` if none is free.
+    pub(crate) fn next_id(&self, key: ClientKey) -> Option<PacketId> {
+        match self.get(key) {
+            Some(session) => next_id(&session.end),
+            None => None,
+        }
+    }
+
     /// Returns the session at an index.
     pub(crate) fn at(&self, index: usize) -> Option<&BrokerSession>
         ensures { option_copied result ≡ slice_get self.now.list index }
@@ -380,7 +390,7 @@ fn ready_at(
     list[at].ready(messages, more)
 }
 
-fn publish_at(list: &mut [BoxedSession], key: ClientKey, message: Message)
+fn publish_at(list: &mut [BoxedSession], key: ClientKey, message: PreparedMessage)
     requires ascending { AreAscending list.old }
     requires ready { IsReadyAt key (message ∷ []) 0 list.old }
     ensures list { list.new ≡ placed_at key message list.old }
@@ -406,7 +416,7 @@ fn serve_at(
 }
 
 impl Sessions {
-    /// Has the end of a session, which must be connected, do what is asked.
+    /// Has the end of a session, which must be connected, carry out a call.
     #[inline(always)]
     pub(crate) fn serve(&mut self, key: ClientKey, call: Call) -> Result<PacketOutcome, AllocError>
         requires { CanServe key call self.old.list }
@@ -474,7 +484,7 @@ impl Sessions {
     }
 
     /// Has the end of a session publish a message for which it has room.
-    pub(crate) fn publish(&mut self, key: ClientKey, message: Message)
+    pub(crate) fn publish(&mut self, key: ClientKey, message: PreparedMessage)
         requires { IsReadyAt key (message ∷ []) 0 self.old.list }
         ensures list { self.new.list ≡ placed_at key message self.old.list }
         ensures left { (rest : List Message) (more : ℕ) → IsReadyAt key (message ∷ rest) more self.old.list

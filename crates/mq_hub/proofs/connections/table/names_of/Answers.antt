@@ -1,4 +1,4 @@
-use Rattle.std.proofs.Common.{◌≡◌, ◌++◌, ◌∙◌, List, map, sym, ap, append-nil}
+use Rattle.std.proofs.Common.{◌++◌, ◌∙◌, List, map, sym, ap, append-nil}
 use Rattle.mq_hub.specs.declared.connections.connection.Connection.{Connection}
 use Rattle.mq_hub.proofs.SavedConnections.{each_name}
 use Rattle.mq_hub.proofs.connections.table.names_of.Goals as goal

@@ -1,4 +1,4 @@
-use Rattle.std.proofs.Common.{◌≡◌, List, [], length, rules, arith, sym, ap, subst}
+use Rattle.std.proofs.Common.{◌≡◌, List, length, rules, arith, sym, ap, subst}
 use Rattle.std.proofs.lemmas.List.{length-map}
 use Rattle.std.specs.List.{AllByRecursion}
 use Rattle.std.specs.declared.cmp.Reverse.{Reverse}

@@ -4,7 +4,7 @@ use Rattle.std.proofs.lemmas.List.{get_or_default}
 use Rattle.std.specs.List.{slice_get}
 use Rattle.mq_route.specs.Hub.{HubState}
 use Rattle.mq_hub.specs.Inside.Tick.{late_of}
-use Rattle.mq_hub.proofs.LateWalk.{IsClosing, closing_all, closing_first, closing_last, closing_late, closing_past, none_by}
+use Rattle.mq_hub.proofs.LateWalk.{closing_all, closing_first, closing_last, closing_late, closing_past, none_by}
 use Rattle.mq_hub.proofs.hub.HubOver.close_late.Goals as goal
 
 pub loop-place-init : goal.loop-place-init

@@ -1,6 +1,6 @@
-use Rattle.std.proofs.Common.{◌≡◌, ◌∙◌, ℕ, List, Option, refl, sym, ap, subst}
+use Rattle.std.proofs.Common.{◌≡◌, ◌∙◌, ℕ, Option, refl, sym, ap, subst}
 use Rattle.mq_route.specs.declared.config.HubConfig.{HubConfig}
-use Rattle.mq_route.specs.Hub.{HubState, HubConnection}
+use Rattle.mq_route.specs.Hub.{HubState}
 use Rattle.mq_hub.specs.declared.connections.table.ConnectionLimits.{ConnectionLimits}
 use Rattle.mq_hub.specs.Inside.Connections.{ConnectionList}
 use Rattle.mq_hub.specs.Inside.Invariant.{HubInvariant}

@@ -1,4 +1,4 @@
-use Rattle.std.proofs.Common.{◌≡◌, ◌≤◌, ◌∙◌, ◌^◌, [], ℕ, Option, ap, subst, arith}
+use Rattle.std.proofs.Common.{◌≡◌, ◌∙◌, ◌^◌, [], ℕ, Option, ap, subst, arith}
 use Rattle.mq_route.specs.Hub.{HubState}
 use Rattle.mq_route.specs.Step.{expired_keys}
 use Rattle.mq_hub.specs.declared.connections.table.ConnectionLimits.{ConnectionLimits}

@@ -1,4 +1,4 @@
-use Rattle.std.proofs.Common.{◌≡◌, ◌∙◌, ◌++◌, ◌<◌, List, [], length, refl, sym, ap, subst, arith}
+use Rattle.std.proofs.Common.{◌∙◌, [], length, refl, sym, ap, subst, arith}
 use Rattle.mq_decode.specs.Grammar.{Pending}
 use Rattle.mq_decode.specs.Limits.{Bounds}
 use Rattle.mq_route.specs.declared.config.HubConfig.{HubConfig}

@@ -1,4 +1,4 @@
-use Rattle.std.proofs.Common.{◌∙◌, [], ap, subst}
+use Rattle.std.proofs.Common.{◌∙◌, [], ap}
 use Rattle.mq_route.specs.Hub.{HubState}
 use Rattle.mq_hub.proofs.InputBytes.{some_received}
 use Rattle.mq_hub.proofs.hub.HubOver.on_some_bytes.Goals as goal

@@ -1,4 +1,4 @@
-use Rattle.std.proofs.Common.{◌<◌, ◌≤◌, ◌∙◌, ℕ, get_or, length, take, sym, ap, subst, add-one, arith}
+use Rattle.std.proofs.Common.{◌<◌, ◌∙◌, ℕ, get_or, length, take, sym, ap, subst, add-one, arith}
 use Rattle.mq_route.specs.Hub.{up_on}
 use Rattle.mq_route.specs.Step.{remove_all}
 use Rattle.mq_route.specs.Work.{remove}

@@ -13,7 +13,7 @@ make_room_for-requires c =
     let d = c.due-item.result in
     let ts = c.loop-due.sessions.list in
     let at = all_at (λ x. IsFor x.0 (x.1 ∷ []) ts) cs i d (omega (arith, c.loop-due-test.true)) c.loop-due.invariant.due in
-    subst (λ (ms : List Message). IsFor d.0 ms ts) (sym c.from_ref.ensures.value) (subst (λ (x : ℕ × Message). IsFor x.0 (x.1 ∷ []) ts) (sym c.due-item.is) at)
+    subst (λ (ms : List Message). IsFor d.0 ms ts) (sym (c.from_ref.ensures.value ∙ ap (λ (m : Message). m ∷ []) c.message.ensures)) (subst (λ (x : ℕ × Message). IsFor x.0 (x.1 ∷ []) ts) (sym c.due-item.is) at)
 
 pub returns-in_err-make_room_for-clause-still : goal.returns-in_err-make_room_for-clause-still
 returns-in_err-make_room_for-clause-still c = λ key ms more was. c.make_room_for.ensures.still key ms more (c.loop-due.invariant.still key ms more was)
@@ -31,7 +31,7 @@ returns-then-not-branch-clause-enough c = λ h has stored.
     let none = subst (λ (x : ℕ × Message). is_among x.0 rest ≡ false) (sym c.due-item.is) (apart_at cs i d l c.requires.apart) in
     let now = has_same c.args.sessions.now.list c.loop-due.sessions.list h c.loop-due.invariant.same has in
     let front = drop_at cs i d l ∙ ap (λ (x : ℕ × Message). x ∷ rest) (sym c.due-item.is) in
-    let says = subst (λ (ms : List Message). all_fit (for_key d.0 ms ++ rest) h ≡ (c.in_ok-make_room_for.field-0 && all_fit rest h)) c.from_ref.ensures.value
+    let says = subst (λ (ms : List Message). all_fit (for_key d.0 ms ++ rest) h ≡ (c.in_ok-make_room_for.field-0 && all_fit rest h)) (c.from_ref.ensures.value ∙ ap (λ (m : Message). m ∷ []) c.message.ensures)
     (c.in_ok-make_room_for.ensures.enough rest h now stored none) in
     sym (c.loop-due.invariant.enough h has stored ∙ ap (λ (xs : List (ℕ × Message)). all_fit xs h) front ∙ says
     ∙ ap (λ (b : Bool). b && all_fit rest h) c.if-not-branch.true)
@@ -51,12 +51,12 @@ loop-due-preserved c =
     let enough = c.if-not-branch.false in
     let own = c.in_ok-make_room_for.ensures.ready (ap (λ (b : Bool). Ok b) enough) in
     let own_ready = subst (λ (x : ℕ × Message). IsReadyAt x.0 (x.1 ∷ []) c.args.more new) c.due-item.is
-    (subst (λ (ms : List Message). IsReadyAt d.0 ms c.args.more new) c.from_ref.ensures.value own) in
+    (subst (λ (ms : List Message). IsReadyAt d.0 ms c.args.more new) (c.from_ref.ensures.value ∙ ap (λ (m : Message). m ∷ []) c.message.ensures) own) in
     record {
       due = are_for_same old new cs c.make_room_for.ensures.same c.loop-due.invariant.due;
       enough = λ h has stored.
           let now = has_same c.args.sessions.now.list old h c.loop-due.invariant.same has in
-          let says = subst (λ (ms : List Message). all_fit (for_key d.0 ms ++ rest) h ≡ (c.in_ok-make_room_for.field-0 && all_fit rest h)) c.from_ref.ensures.value
+          let says = subst (λ (ms : List Message). all_fit (for_key d.0 ms ++ rest) h ≡ (c.in_ok-make_room_for.field-0 && all_fit rest h)) (c.from_ref.ensures.value ∙ ap (λ (m : Message). m ∷ []) c.message.ensures)
           (c.in_ok-make_room_for.ensures.enough rest h now stored none) in
           c.loop-due.invariant.enough h has stored ∙ ap (λ (xs : List (ℕ × Message)). all_fit xs h) front ∙ says
           ∙ ap (λ (b : Bool). b && all_fit rest h) enough

@@ -1,4 +1,4 @@
-use Rattle.std.proofs.Common.{◌≡◌, ◌∙◌, ◌∷◌, [], Bool, Option, IfSome, true, false, not, List, sym, ap, subst}
+use Rattle.std.proofs.Common.{◌≡◌, ◌∙◌, Option, IfSome, true, false, not, List, sym, ap, subst}
 use Rattle.std.specs.List.{AllByRecursion}
 use Rattle.mq_packet.specs.declared.message.Message.{Message}
 use Rattle.mq_hub.specs.declared.sessions.session.BrokerSession.{BrokerSession}

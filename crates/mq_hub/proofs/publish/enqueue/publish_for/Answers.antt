@@ -1,7 +1,7 @@
-use Rattle.std.proofs.Common.{◌≡◌, ◌∙◌, ◌∷◌, List, sym, ap, subst}
+use Rattle.std.proofs.Common.{◌≡◌, ◌∙◌, ◌∷◌, [], List, sym, ap, subst}
 use Rattle.mq_packet.specs.declared.message.Message.{Message}
 use Rattle.mq_route.specs.Hub.{for_key}
-use Rattle.mq_hub.specs.Inside.Placement.{IsReadyAt, placed_all}
+use Rattle.mq_hub.specs.Inside.Placement.{IsReadyAt, placed_all, placed_at}
 use Rattle.mq_hub.proofs.EndPublishes.{only_first}
 use Rattle.mq_hub.proofs.publish.enqueue.publish_for.Goals as goal
 
@@ -12,7 +12,8 @@ publish-requires c =
     let ms = c.next.new.self.rest.items in
     let steps : at.message-iterator.rest.items ≡ m ∷ ms = c.in-Some.ensures.steps.0 in
     let ready = subst (λ (xs : List Message). IsReadyAt c.args.key xs 0 at.sessions.list) steps at.invariant.ready in
-    record { session = ready.session; there = ready.there; ready = only_first m ms 0 ready.session.end ready.ready }
+    let one : IsReadyAt c.args.key (m ∷ []) 0 at.sessions.list = record { session = ready.session; there = ready.there; ready = only_first m ms 0 ready.session.end ready.ready } in
+    subst (λ (x : Message). IsReadyAt c.args.key (x ∷ []) 0 at.sessions.list) (sym c.new.ensures) one
 
 pub loop-message-preserved : goal.loop-message-preserved
 loop-message-preserved c =
@@ -23,7 +24,7 @@ loop-message-preserved c =
     let steps : at.message-iterator.rest.items ≡ m ∷ ms = c.in-Some.ensures.steps.0 in
     let ready = subst (λ (xs : List Message). IsReadyAt key xs 0 at.sessions.list) steps at.invariant.ready in
     record {
-      ready = c.publish.ensures.left ms 0 ready;
-      list = ap (placed_all (for_key key ms)) c.publish.ensures.list ∙ ap (λ (xs : List Message). placed_all (for_key key xs) at.sessions.list) (sym steps) ∙ at.invariant.list;
+      ready = c.publish.ensures.left ms 0 (subst (λ (x : Message). IsReadyAt key (x ∷ ms) 0 at.sessions.list) (sym c.new.ensures) ready);
+      list = ap (placed_all (for_key key ms)) (c.publish.ensures.list ∙ ap (λ (x : Message). placed_at key x at.sessions.list) c.new.ensures) ∙ ap (λ (xs : List Message). placed_all (for_key key xs) at.sessions.list) (sym steps) ∙ at.invariant.list;
       room = c.publish.ensures.room ∙ at.invariant.room;
     }

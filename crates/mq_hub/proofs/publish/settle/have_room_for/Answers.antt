@@ -1,6 +1,5 @@
-use Rattle.std.proofs.Common.{◌≡◌, ◌∙◌, ◌++◌, [], Bool, Option, IfSome, true, false, List, sym, ap, subst}
+use Rattle.std.proofs.Common.{◌≡◌, ◌∙◌, Option, IfSome, sym, ap, subst}
 use Rattle.std.specs.List.{AllByRecursion}
-use Rattle.mq_packet.specs.declared.message.Message.{Message}
 use Rattle.mq_route.specs.Hub.{for_key}
 use Rattle.mq_route.specs.Work.{drops_copies}
 use Rattle.mq_hub.specs.declared.publish.rules.CopyRules.{CopyRules}

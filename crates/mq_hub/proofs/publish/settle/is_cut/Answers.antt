@@ -1,7 +1,5 @@
-use Rattle.std.proofs.Common.{◌≡◌, ◌∙◌, ◌+◌, ◌&&◌, ℕ, Bool, List, Option, IfSome, true, not, length, sym, ap, subst}
+use Rattle.std.proofs.Common.{◌≡◌, ◌∙◌, ◌+◌, ℕ, Option, IfSome, length, sym, subst}
 use Rattle.mq_packet.specs.declared.message.Message.{Message}
-use Rattle.mq_end.specs.Both.{has_identifier}
-use Rattle.mq_route.specs.Work.{publish_bytes}
 use Rattle.mq_hub.specs.declared.sessions.session.BrokerSession.{BrokerSession}
 use Rattle.mq_hub.specs.Inside.Rules.{left_of}
 use Rattle.mq_hub.proofs.MissedCopies.{cut_identified, cut_is}

@@ -1,7 +1,6 @@
-use Rattle.std.proofs.Common.{append-nil, ◌≡◌, ◌∙◌, ◌++◌, ◌∷◌, ◌&&◌, [], ℕ, Bool, List, Ok, true, false, cond, length, map, refl, sym, ap, subst, arith, true≢false}
+use Rattle.std.proofs.Common.{append-nil, ◌≡◌, ◌∙◌, ◌++◌, ◌∷◌, ◌&&◌, [], ℕ, Bool, List, Ok, cond, length, map, sym, ap, subst, arith, true≢false}
 use Rattle.std.proofs.lemmas.List.{nil_from_length}
 use Rattle.mq_packet.specs.declared.message.Message.{Message}
-use Rattle.mq_route.specs.declared.act.Act.{Act}
 use Rattle.mq_route.specs.declared.act.Act.TheVariants as acts
 use Rattle.mq_route.specs.Work.{all_fit, drops_copies}
 use Rattle.mq_hub.specs.declared.publish.rules.CopyRules.{CopyRules}

@@ -1,5 +1,4 @@
-use Rattle.std.proofs.Common.{◌≡◌, ◌+◌, ◌++◌, List, ℕ, false, length, map}
-use Rattle.mq_packet.specs.declared.message.Message.{Message}
+use Rattle.std.proofs.Common.{◌≡◌, ◌+◌, ◌++◌, false, length, map}
 use Rattle.mq_route.specs.Hub.{HubState}
 use Rattle.mq_route.specs.Work.{all_fit, drops_copies}
 use Rattle.mq_hub.specs.Inside.Placement.{AreApart, AreFor, AreReady, AreSameButRoom, AreStillReady, HasSessions}

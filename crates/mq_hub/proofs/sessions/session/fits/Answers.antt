@@ -1,6 +1,5 @@
-use Rattle.std.proofs.Common.{◌≡◌, ◌∙◌, ◌+◌, ◌-◌, ◌<◌, ◌≤◌, ◌∷◌, ℕ, suc, Bool, List, Option, not, length, drop, refl, sym, ap, ap₂, add-one, arith, eq-eqb}
+use Rattle.std.proofs.Common.{◌≡◌, ◌∙◌, ◌+◌, ◌<◌, ℕ, suc, Option, length, drop, sym, ap, ap₂, add-one, arith, eq-eqb}
 use Rattle.std.proofs.lemmas.Bool.{ne_eqb}
-use Rattle.mq_packet.specs.declared.message.Message.{Message}
 use Rattle.mq_hub.specs.Inside.Rules.{fits_left, left_of}
 use Rattle.mq_hub.proofs.FittingMessages.{ended, fits_in, fits_next, fits_no_more, fits_none, fits_plain, fits_too_many, front}
 use Rattle.mq_hub.proofs.sessions.session.fits.Goals as goal

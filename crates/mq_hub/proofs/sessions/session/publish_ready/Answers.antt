@@ -9,16 +9,16 @@ returns-clause-end c =
     let old = c.args.end.now in
     let m = c.args.message in
     let free = first_of m [] 0 old c.requires in
-    let kept = c.publish.ensures.kept free [] 0 c.requires.room in
-    let a = in_ok c.publish.result kept.0 c.publish.ensures.ok in
-    published_is c.next_laws.ensures c.encoding_laws.ensures a.0 m old c.publish.new.self a.1
+    let kept = c.publish_prepared.ensures.kept free [] 0 c.requires.room in
+    let a = in_ok c.publish_prepared.result kept.0 c.publish_prepared.ensures.ok in
+    published_is c.next_laws.ensures c.encoding_laws.ensures a.0 m old c.publish_prepared.new.self a.1
 
 pub returns-clause-left : goal.returns-clause-left
 returns-clause-left c = λ rest more ready.
     let old = c.args.end.now in
     let m = c.args.message in
     let free = first_of m [] 0 old c.requires in
-    let kept = c.publish.ensures.kept free [] 0 c.requires.room in
-    let a = in_ok c.publish.result kept.0 c.publish.ensures.ok in
-    let is = published_is c.next_laws.ensures c.encoding_laws.ensures a.0 m old c.publish.new.self a.1 in
-    rest_of m rest more old ready (subst (λ (s : EndState). HasRoom rest more s) is (c.publish.ensures.kept free rest more ready.room).1)
+    let kept = c.publish_prepared.ensures.kept free [] 0 c.requires.room in
+    let a = in_ok c.publish_prepared.result kept.0 c.publish_prepared.ensures.ok in
+    let is = published_is c.next_laws.ensures c.encoding_laws.ensures a.0 m old c.publish_prepared.new.self a.1 in
+    rest_of m rest more old ready (subst (λ (s : EndState). HasRoom rest more s) is (c.publish_prepared.ensures.kept free rest more ready.room).1)

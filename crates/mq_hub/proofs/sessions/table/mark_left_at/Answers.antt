@@ -1,4 +1,4 @@
-use Rattle.std.proofs.Common.{◌≡◌, ◌∙◌, ◌<◌, ℕ, length, get_or, slice_set, sym, ap, subst}
+use Rattle.std.proofs.Common.{◌∙◌, ◌<◌, ℕ, length, get_or, slice_set, sym, ap, subst}
 use Rattle.mq_hub.specs.declared.sessions.session.BrokerSession.{BrokerSession}
 use Rattle.mq_hub.proofs.DisconnectTimes.{stored_marked}
 use Rattle.mq_hub.proofs.SessionLemmas.{place, in_place, found_within}

@@ -1,4 +1,4 @@
-use Rattle.std.proofs.Common.{◌∙◌, List, Some, refl, slice_get, sym, ap}
+use Rattle.std.proofs.Common.{◌∙◌, List, refl, slice_get, sym, ap}
 use Rattle.mq_route.specs.Hub.{HubConnection, knows, stage_of}
 use Rattle.mq_hub.specs.Inside.Connections.{service, ConnectionList}
 use Rattle.mq_hub.specs.declared.connections.connection.Connection.{Connection}

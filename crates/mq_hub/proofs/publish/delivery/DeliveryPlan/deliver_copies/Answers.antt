@@ -1,4 +1,4 @@
-use Rattle.std.proofs.Common.{◌∙◌, List, ◌∷◌, [], ◌++◌, refl, sym, ap}
+use Rattle.std.proofs.Common.{◌∙◌, List, ◌++◌, refl, sym, ap}
 use Rattle.mq_route.specs.Copies.{kept}
 use Rattle.mq_route.specs.Hub.{copies_of}
 use Rattle.mq_route.specs.declared.act.Act.{Act}

@@ -1,4 +1,4 @@
-use Rattle.std.proofs.Common.{◌≡◌, ◌∙◌, ◌++◌, ℕ, List, sym, ap}
+use Rattle.std.proofs.Common.{◌∙◌, ◌++◌, ℕ, List, sym, ap}
 use Rattle.mq_packet.specs.declared.message.Message.{Message}
 use Rattle.mq_route.specs.Work.{all_fit, drops_copies}
 use Rattle.mq_hub.specs.declared.publish.rules.CopyRules.{CopyRules}

@@ -1,7 +1,7 @@
 use Rattle.std.proofs.Common.{◌∙◌, drop, take, ap}
 use Rattle.std.proofs.lemmas.List.{drop-take}
 use Rattle.mq_end.specs.Waiting.{Waiting}
-use Rattle.mq_end.proofs.output.Output.truncate.Goals as goal
+use Rattle.mq_end.proofs.buffer.Buffer.truncate.Goals as goal
 
 pub returns : goal.returns
 returns c =
