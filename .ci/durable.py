@@ -30,6 +30,8 @@ SEED = int(os.environ.get("SEED", str(os.getpid())))
 KILLS = 8
 # The size of a journal without --journal-size.
 SIZE = 64 << 20
+# The option for a journal that is full after a few messages.
+SMALL = ["--journal-size", "3000"]
 LOST = (OSError, AssertionError)
 
 
@@ -51,9 +53,9 @@ def message_of(first, body):
 class Kept(Broker):
     """A broker with a journal. Its files have `size` bytes at most, and its memory `memory`."""
 
-    def __init__(self, program, folder, *words, size=None, memory=None):
+    def __init__(self, program, folder, *words, size=None, memory=None, log="--quiet"):
         self.log = tempfile.NamedTemporaryFile(mode="r")
-        words = [program, "broker", "--listen", "127.0.0.1:0", "--quiet", "--data", folder, *words]
+        words = [program, "broker", "--listen", "127.0.0.1:0", log, "--data", folder, *words]
 
         def limit():
             if size:
@@ -361,7 +363,7 @@ def queued(program):
                         assert home.expect(0x30).endswith(b"-%d" % nth)
 
 
-def fill_queue(broker, first, count):
+def fill_queue(broker, first, count, tail=b""):
     """Lets messages of QoS 1 wait for a session that is away, which begins with the first one."""
     if first == 0:
         with Client(broker, "home", clean=False) as home:
@@ -370,7 +372,7 @@ def fill_queue(broker, first, count):
             assert home.is_closed()
     with Client(broker, "p") as client:
         for nth in range(first, first + count):
-            client.send(publish(f"t/{nth}", b"-%d" % nth, 1, nth + 1))
+            client.send(publish(f"t/{nth}", b"-%d" % nth + tail, 1, nth + 1))
             client.expect(0x40)
         client.send(DISCONNECT)
         assert client.is_closed()
@@ -480,18 +482,49 @@ def check_files(folder):
 
 def full(program):
     """On a full disk the broker ends, and every message that it acknowledged is there later."""
-    small = ["--journal-size", "3000"]
     with tempfile.TemporaryDirectory() as folder:
         fill(program, f"{folder}/data", 100_000)
-        fill(program, f"{folder}/more", 100_000, *small)
+        fill(program, f"{folder}/more", 100_000, *SMALL)
+    with small_disk() as folder:
+        if folder:
+            fill(program, f"{folder}/data", None)
+
+
+def full_snapshot(program):
+    """A disk that is full during a snapshot is reported as full, and the old files are kept."""
+    with small_disk() as folder:
+        if not folder:
+            return
+        data, tail = f"{folder}/data", 1_000 * b"x"
+        fill(program, data, None, *SMALL)
+        assert "snapshot.next" in os.listdir(data), os.listdir(data)
+        shutil.rmtree(data)
+        with Kept(program, data) as broker:
+            fill_queue(broker, 0, 110, tail)
+        names = sorted(os.listdir(data))
+        before = files_of(data)
+        wanted = f"mqtt: the folder '{data}': a file of the folder cannot be written: the disk is full\n"
+        assert run_broker(program, "--data", data) == (1, wanted)
+        after = files_of(data)
+        assert all(after[name] == before[name] for name in names), names
+        with tempfile.TemporaryDirectory() as other:
+            shutil.copytree(data, f"{other}/data")
+            with Kept(program, f"{other}/data") as broker:
+                assert messages_of_home(broker) == [b"-%d" % nth + tail for nth in range(110)]
+                check_files(f"{other}/data")
+
+
+@contextlib.contextmanager
+def small_disk():
+    """A folder on a disk of 200 KiB, or None if no disk can be mounted."""
+    with tempfile.TemporaryDirectory() as folder:
         mount = ["mount", "-t", "tmpfs", "-o", "size=200k", "tmpfs", folder]
         if subprocess.run(mount, capture_output=True, check=False).returncode:
-            print("durable: full: no tmpfs can be mounted here, so only the size of files was limited")
+            print("durable: no tmpfs can be mounted here, so no disk was full")
+            yield None
             return
         try:
-            fill(program, f"{folder}/data", None)
-            shutil.rmtree(f"{folder}/data")
-            fill(program, f"{folder}/data", None, *small)
+            yield folder
         finally:
             subprocess.run(["umount", folder], check=True)
 
@@ -527,6 +560,21 @@ def publish_until_lost(broker, size=1_000):
             except LOST:
                 return taken
     raise AssertionError("the disk is not full")
+
+
+def pause(program):
+    """The log reports each snapshot, with the bytes of its file and the sessions."""
+    with tempfile.TemporaryDirectory() as folder:
+        with Kept(program, folder, *SMALL, log="--verbose") as broker:
+            fill_queue(broker, 0, 20, 300 * b"x")
+            # The log is written after the output of a round.
+            time.sleep(0.2)
+            broker.kill()
+            lines = broker.process.stderr.read().decode().splitlines()
+        lines = [line for line in lines if line.startswith("snapshot")]
+        found = [re.fullmatch(r"snapshot bytes=(\d+) sessions=(\d+) milliseconds=\d+", line) for line in lines]
+        assert len(found) > 1 and all(found), lines
+        assert int(found[-1][1]) == os.path.getsize(f"{folder}/snapshot") and found[-1][2] in "12", lines
 
 
 def memory(program):
@@ -620,7 +668,7 @@ def messages_of_home(broker):
             found.append(message_of(first, body)[1])
 
 
-TESTS = [kills, queued, refusals, changes, restarts, full, memory, damage]
+TESTS = [kills, queued, refusals, changes, restarts, full, full_snapshot, pause, memory, damage]
 
 
 def faults_of(program, names=()):

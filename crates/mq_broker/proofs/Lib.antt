@@ -1,2 +1,3 @@
 mod Begins
+mod Fullness
 mod Inputs

@@ -1,5 +1,5 @@
--- Lines about connections on which no client is connected.
-use Rattle.std.specs.Prelude.{ℕ, List, ◌++◌, codes}
+-- Lines about connections on which no client is connected, and about snapshots.
+use Rattle.std.specs.Prelude.{ℕ, List, ◌++◌, codes, decimal}
 use Rattle.mq_packet.specs.declared.connack.RefusalCode.{RefusalCode}
 use Rattle.mq_route.specs.declared.close.HubClose.{HubClose}
 use Rattle.mq_line.specs.Lines.{escaped}
@@ -12,3 +12,10 @@ refused_text address code = codes "refused address=" ++ (escaped address ++ refu
 -- a connection is closed
 abbrev pub closed_text : List ℕ → HubClose → List ℕ
 closed_text address reason = codes "closed address=" ++ (escaped address ++ close_text reason)
+
+-- a snapshot was written: its bytes, the sessions of the broker, and the pause
+abbrev pub snapshot_text : (bytes sessions milliseconds : ℕ) → List ℕ
+snapshot_text bytes sessions milliseconds =
+    codes "snapshot bytes="
+    ++ (decimal bytes
+    ++ (codes " sessions=" ++ (decimal sessions ++ (codes " milliseconds=" ++ decimal milliseconds))))

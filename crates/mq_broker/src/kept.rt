@@ -1,7 +1,10 @@
 //! The broker of an event loop, with a journal.
 
-ghost use Rattle.std.specs.Prelude.{◌≡◌, ◌==◌, [], length, true};
+ghost use Rattle.std.specs.Prelude.{◌≡◌, ◌==◌, [], length, true, OnOk};
+ghost use Rattle.mq_broker.specs.End.{next_failure};
+ghost use Rattle.mq_store.specs.Continued.{HasNext, IsFull};
 
+use crate::snapshot::{LastSnapshot, SnapshotNote};
 use mq_durable::{CommitError, Durable, StepRefusal};
 use mq_file::JournalFile;
 use mq_hub::Hub;
@@ -12,6 +15,8 @@ use mq_store::{DataFolder, StoreError};
 use std::alloc::Global;
 use std::fs::File;
 use std::rt::Files;
+use std::time::Instant;
+use std::{io, time};
 
 /// A broker whose events are in a journal before their output is collected.
 #[derive(Drop)]
@@ -20,6 +25,8 @@ pub(crate) struct Kept<'a, R: Files<File = File>> {
     pub(crate) alloc: Global,
     pub(crate) durable: Durable<JournalFile>,
     pub(crate) folder: DataFolder,
+    /// The last snapshot, for the log.
+    pub(crate) last: &'a LastSnapshot,
 }
 
 // Why the broker made no step. A commit reports an earlier failure, and an entry that is full.
@@ -39,34 +46,67 @@ fn commit_failure(error: CommitError) -> CommitFailure {
 }
 
 // Why the next file was not begun. The files before it are whole.
-fn next_failure(error: StoreError) -> CommitFailure {
+fn next_failure(error: StoreError) -> CommitFailure
+    ensures { result ≡ next_failure error }
+{
     match error {
         StoreError::Memory => CommitFailure::Memory,
+        StoreError::Full => CommitFailure::Full,
         _ => CommitFailure::Storage,
     }
 }
 
-impl<'a, R: Files<File = File>> Kept<'a, R> {
+// The milliseconds since a time, as far as the clock is readable.
+fn milliseconds_since<R: time::Clock>(rt: &R, began: io::Result<Instant>) -> u64 {
+    let Ok(began) = began else {
+        return 0;
+    };
+    let Ok(time) = began.elapsed(rt) else {
+        return 0;
+    };
+    u64::try_from(time.as_millis()).unwrap_or(u64::MAX)
+}
+
+impl<'a, R: time::Clock + Files<File = File>> Kept<'a, R> {
+    // Notes a snapshot of this number of bytes, for the log.
+    fn note_snapshot(&self, began: io::Result<Instant>, bytes: usize) {
+        self.last.set(SnapshotNote {
+            bytes: bytes as u64,
+            sessions: self.durable.hub().counts().sessions as u64,
+            milliseconds: milliseconds_since(self.rt, began),
+        });
+    }
+
     // Begins the next file, if the one before has reached its size.
+    #[tactic(auto, using(crate::proofs::Fullness::just_begun))]
     fn begin_next(&mut self) -> Result<(), CommitFailure>
         requires { self.old.durable.pending ≡ [] }
         ensures hub { self.new.durable.hub ≡ self.old.durable.hub }
         ensures none { self.new.durable.pending ≡ [] }
+        ensures same { ¬ (IsFull self.old.folder self.old.durable)
+            → (self.new.durable ≡ self.old.durable) × (self.new.folder ≡ self.old.folder) }
+        ensures begun { IsFull self.old.folder self.old.durable
+            → OnOk result (HasNext self.old.folder self.old.durable.hub self.new.folder) }
+        ensures not_full { OnOk result (¬ (IsFull self.new.folder self.new.durable)) }
     {
         if !self.folder.is_full(&self.durable) {
             return Ok(());
         }
+        let began = Instant::now(self.rt);
         match self
             .folder
             .begin_next(self.rt, self.alloc, &mut self.durable)
         {
-            Ok(()) => Ok(()),
+            Ok(bytes) => {
+                self.note_snapshot(began, bytes);
+                Ok(())
+            }
             Err(error) => Err(next_failure(error)),
         }
     }
 }
 
-impl<'a, R: Files<File = File>> Broker for Kept<'a, R> {
+impl<'a, R: time::Clock + Files<File = File>> Broker for Kept<'a, R> {
     ghost state = { λ kept. kept.durable.hub };
 
     ghost committed = { λ kept. length kept.durable.pending == 0 };
@@ -105,7 +145,11 @@ impl<'a, R: Files<File = File>> Broker for Kept<'a, R> {
         }
     }
 
-    fn commit(&mut self) -> Result<(), CommitFailure> {
+    fn commit(&mut self) -> Result<(), CommitFailure>
+        ensures ok { OnOk result ((length self.new.durable.pending == 0) ≡ true) }
+        ensures state { self.new.durable.hub ≡ self.old.durable.hub }
+        ensures not_full { OnOk result (¬ (IsFull self.new.folder self.new.durable)) }
+    {
         match self.durable.commit() {
             Ok(()) => self.begin_next(),
             Err(error) => Err(commit_failure(error)),

@@ -18,6 +18,7 @@ mod recovered;
 mod rows;
 mod server;
 mod site;
+mod snapshot;
 mod status_port;
 
 pub use crate::end::BrokerEnd;

@@ -8,6 +8,7 @@ ghost use Rattle.mq_status.specs.Log.{line_text};
 ghost use Rattle.mq_broker.specs.Lines.{closed_text, refused_text};
 
 use crate::peers::{Peer, Peers};
+use crate::snapshot::{SnapshotNote, write_snapshot};
 use mq_end::CloseReason;
 use mq_loop::Report;
 use mq_route::HubClose;
@@ -25,7 +26,7 @@ pub enum LogLevel {
     Quiet,
     /// Lines about clients.
     Normal,
-    /// Also lines about connections.
+    /// Also lines about connections and snapshots.
     Verbose,
 }
 
@@ -164,6 +165,13 @@ impl<W: Write> Log<W> {
     pub(crate) fn missed_before_end(&mut self, key: ClientKey, messages: u64) {
         if let Ok(client) = key_name(self.alloc, key) {
             self.missed(client.as_str(), messages);
+        }
+    }
+
+    /// Writes that a snapshot was made.
+    pub(crate) fn snapshot(&mut self, note: SnapshotNote) {
+        if self.has(LogLevel::Verbose) {
+            let _ = write_snapshot(&mut self.output, note);
         }
     }
 

@@ -16,6 +16,7 @@ use crate::log::{Log, LogLevel};
 use crate::options::BrokerOptions;
 use crate::peers::Peers;
 use crate::site::Site;
+use crate::snapshot::LastSnapshot;
 use crate::status_port::StatusPort;
 use mio::net::{TcpListener, TcpStream};
 use mio::{Events, Poll, Token};
@@ -92,18 +93,21 @@ pub fn run_broker<R: Net + time::Clock, W: Write, L: Write + Drop>(
     begun_laws();
     let site = Site::new(&options, packets);
     let hub = Hub::new(alloc, options.into_config(packets));
-    match run_at(rt, alloc, site, hub, 0, output, log) {
+    let last = LastSnapshot::new();
+    match run_at(rt, alloc, site, hub, &last, 0, output, log) {
         Ok(()) => BrokerEnd::Listener,
         Err(end) => end,
     }
 }
 
 /// Runs a broker whose clock continues from a time in milliseconds. It must know no connection.
+/// The log reports the snapshots that the broker notes in `last`.
 pub(crate) fn run_at<R: Net + time::Clock, B: Broker + Drop, W: Write, L: Write + Drop>(
     rt: &R,
     alloc: Global,
     site: Site,
     broker: B,
+    last: &LastSnapshot,
     began_at: u64,
     output: &mut W,
     log: Log<L>,
@@ -112,7 +116,7 @@ pub(crate) fn run_at<R: Net + time::Clock, B: Broker + Drop, W: Write, L: Write 
     ensures { IfErr result (λ end. end ≢ PacketLimit) }
 {
     let mut server = Server::open(rt, alloc, site, broker, began_at, log)?;
-    server.serve(rt, alloc, output)
+    server.serve(rt, alloc, last, output)
 }
 
 fn new_poll<R: Net>(rt: &R) -> Result<Poll, BrokerEnd>
@@ -200,6 +204,7 @@ impl<B: Broker + Drop, L: Write + Drop> Server<B, L> {
         &mut self,
         rt: &R,
         alloc: Global,
+        last: &LastSnapshot,
         output: &mut W,
     ) -> Result<(), BrokerEnd>
         ensures { IfErr result (λ end. end ≢ PacketLimit) }
@@ -219,6 +224,7 @@ impl<B: Broker + Drop, L: Write + Drop> Server<B, L> {
             let began = Instant::now(rt);
             let settled = self.connections.round(now, buffer.as_mut_slice());
             self.count_round(rt, began);
+            self.report_snapshot(last);
             self.take_reports(now);
             settled?;
             self.accept_all(now)?;

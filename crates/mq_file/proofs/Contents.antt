@@ -1,9 +1,9 @@
 -- The contents that a crash may leave after calls.
-use Rattle.std.proofs.Common.{◌≡◌, ◌⊎◌, inl, inr, ℕ, ◌+◌, ◌-◌, ◌≤◌, List, [], ◌∷◌, ◌++◌, length, take, drop, min, max, refl, sym, ap, ◌∙◌, subst, append_assoc, length-take, length-append, arith}
+use Rattle.std.proofs.Common.{◌≡◌, inl, inr, ℕ, ◌+◌, ◌-◌, ◌≤◌, List, [], ◌∷◌, ◌++◌, length, take, drop, min, max, refl, sym, ap, ◌∙◌, subst, append_assoc, length-take, length-append, arith}
 use Rattle.std.proofs.lemmas.List.{length-drop, take_all, take-append-le}
 use Rattle.std.proofs.lemmas.Slice.{drop-append-drop}
 use Rattle.mq_log.specs.Disk.{Follows, Torn}
-use Rattle.mq_file.specs.History.{FileCall, Wrote, Stumbled, Synced, Failed, MayLeave, seen_after}
+use Rattle.mq_file.specs.History.{FileCall, Wrote, Stumbled, Synced, Failed, MayLeave, file_size, seen_after}
 
 as_before : (at n : ℕ) (d : List ℕ) → Torn at n d d
 as_before at n d = record { before = refl; after = refl; no_shorter = omega arith; no_longer = grind arith }
@@ -55,8 +55,25 @@ module _ (at : ℕ) (bytes d : List ℕ) (within : at ≤ length d) where
     no_longer = grind (arith, new_len, behind_len);
   }
 
-pub write_leaves : (at : ℕ) (bytes : List ℕ) (calls : List FileCall) → at ≤ length (seen_after calls)
+-- a write extends the file if it ends behind the old end
+size_after_write : (at : ℕ) (bytes : List ℕ) (calls : List FileCall) → at ≤ file_size calls
+    → file_size (Wrote at bytes ∷ calls) ≡ max (file_size calls) (at + length bytes)
+size_after_write at bytes calls within =
+    let content : List ℕ = seen_after calls in
+    grind (arith, new_len at bytes content within, behind_len at bytes content within)
+
+write_leaves : (at : ℕ) (bytes : List ℕ) (calls : List FileCall) → at ≤ length (seen_after calls)
     → Follows (Torn at (length bytes)) (MayLeave calls) (MayLeave (Wrote at bytes ∷ calls))
 write_leaves at bytes calls within c (inl same) =
     (seen_after calls, seen_may_stay calls, subst (λ (x : List ℕ). Torn at (length bytes) (seen_after calls) x) (sym same) (torn_write at bytes (seen_after calls) within))
 write_leaves at bytes calls within c (inr torn) = torn
+
+-- The same of the record from after the write.
+pub wrote_size : (at : ℕ) (bytes : List ℕ) (calls new : List FileCall) → at ≤ file_size calls → new ≡ Wrote at bytes ∷ calls
+    → file_size new ≡ max (file_size calls) (at + length bytes)
+wrote_size at bytes calls new within is = ap file_size is ∙ size_after_write at bytes calls within
+
+pub wrote_leaves : (at : ℕ) (bytes : List ℕ) (calls new : List FileCall) → at ≤ file_size calls → new ≡ Wrote at bytes ∷ calls
+    → Follows (Torn at (length bytes)) (MayLeave calls) (MayLeave new)
+wrote_leaves at bytes calls new within is =
+    subst (λ (after : List FileCall). Follows (Torn at (length bytes)) (MayLeave calls) (MayLeave after)) (sym is) (write_leaves at bytes calls within)

@@ -1,4 +1,5 @@
 pub mod Contents
+pub mod Folders
 pub mod Replacing
 pub mod Switching
 pub mod Times

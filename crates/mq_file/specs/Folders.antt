@@ -1,11 +1,15 @@
 -- Errors of a folder, by those of the system.
-use Rattle.std.specs.Prelude.{Bool, true, false, Option, Some, None, Result, Ok, Err, if◌then◌else◌}
+use Rattle.std.specs.Prelude.{◌≡◌, ◌⊎◌}
 use Rattle.std.specs.declared.fs.TryLockError.{TryLockError}
 use Rattle.std.specs.declared.fs.TryLockError.TheVariants as locks
 use Rattle.mq_file.specs.declared.error.FolderError.{FolderError}
-use Rattle.mq_file.specs.declared.error.FolderError.TheVariants.{InUse, Folder}
+use Rattle.mq_file.specs.declared.error.FolderError.TheVariants.{InUse, Folder, Full, Unwritten}
 
 -- why a lock was not taken: another process has it, or there is no folder
 abbrev pub lock_error : TryLockError → FolderError
 lock_error (locks.Error error) = Folder
 lock_error locks.WouldBlock = InUse
+
+-- why a call that writes failed
+abbrev pub IsNotWritten : FolderError → Type 0
+IsNotWritten why = (why ≡ Unwritten) ⊎ (why ≡ Full)

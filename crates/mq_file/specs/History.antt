@@ -26,6 +26,10 @@ seen_after (Stumbled at bytes ∷ before) = seen_after before
 seen_after (Synced ∷ before) = seen_after before
 seen_after (Failed ∷ before) = seen_after before
 
+-- the number of bytes of the content
+abbrev pub file_size : List FileCall → ℕ
+file_size calls = length (seen_after calls)
+
 -- A crash after calls may leave this content: that of the calls, or one in which writes since the
 -- last sync changed their ranges in any way.
 abbrev pub MayLeave : List FileCall → List ℕ → Type 0

@@ -1,4 +1,4 @@
-pub mod Files
+pub mod FolderHistory
 pub mod Folders
 pub mod History
 pub mod Named

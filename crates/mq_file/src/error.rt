@@ -2,7 +2,7 @@
 
 ghost use Rattle.std.specs.Prelude.{◌≡◌, ◌≢◌, true, false, Ok, Err, Some, None, IfErr, IfOk, IsOk, OnOk};
 ghost use Rattle.std.specs.IoError.{error_kind};
-ghost use Rattle.mq_file.specs.Folders.{lock_error};
+ghost use Rattle.mq_file.specs.Folders.{IsNotWritten, lock_error};
 
 use std::fs::TryLockError;
 use std::io;
@@ -24,6 +24,9 @@ pub enum FolderError {
     /// A file can't be written.
     #[error("a file of the journal cannot be written")]
     Unwritten,
+    /// A file can't be written, because the disk is full.
+    #[error("a file of the journal cannot be written: the disk is full")]
+    Full,
     /// An allocation failed.
     #[error("out of memory")]
     Memory,
@@ -84,10 +87,13 @@ pub(crate) fn read(read: io::Result<Vec<u8>>) -> Result<Vec<u8>, FolderError>
 // A call that writes.
 pub(crate) fn written<T>(written: io::Result<T>) -> Result<T, FolderError>
     ensures ok { IfOk written (λ value. result ≡ Ok value) }
-    ensures err { IfErr written (λ _. result ≡ Err FolderError.Unwritten) }
+    ensures full { IfErr written (λ error. error_kind error ≡ ErrorKind.StorageFull → result ≡ Err FolderError.Full) }
+    ensures err { IfErr written (λ error. error_kind error ≢ ErrorKind.StorageFull → result ≡ Err FolderError.Unwritten) }
+    ensures why { IfErr result IsNotWritten }
 {
     match written {
         Ok(value) => Ok(value),
+        Err(error) if error.kind() == ErrorKind::StorageFull => Err(FolderError::Full),
         Err(_) => Err(FolderError::Unwritten),
     }
 }

@@ -1,20 +1,39 @@
 //! The folder of a broker's files.
 
-ghost use Rattle.std.specs.Prelude.{◌≡◌, ◌≢◌, ◌⊎◌, Ok, Err, IfErr, IfOk};
+ghost use Rattle.std.specs.Prelude.{◌≡◌, ◌≢◌, ◌⊎◌, Ok, Err, Some, IfErr, IfOk, OnOk};
+ghost use Rattle.mq_file.specs.FolderHistory.{files_after};
+ghost use Rattle.mq_file.specs.Folders.{IsNotWritten};
+ghost use Rattle.mq_file.specs.Named.{AreApart, IsEitherPair, IsSwitched, Removed, Throughout};
 
 use crate::error::{FolderError, check_lock, is_new, opened, read, written};
+use crate::folder_record::FolderRecord;
 use crate::named_files::{NamedFiles, switch};
 use std::alloc::Global;
 use std::fs::{DirBuilder, File, OpenOptions};
 use std::io::{ErrorKind, Read, Write};
+use std::marker::Model;
 use std::os::unix::fs::{DirBuilderExt, OpenOptionsExt};
 use std::rt::Files;
-use std::{fs, io};
+use std::{fs, io, mem};
 
 /// A folder that no other process uses, as long as this value exists.
+///
+/// Contracts see it as the calls on its files, newest first, from which follows what a crash may
+/// leave. Those of earlier processes are not known. The writes of a
+/// [`JournalFile`](crate::JournalFile) are in its own record, and not in this one.
 #[derive(Drop)]
 pub struct Folder {
     folder: File,
+    history: FolderRecord,
+}
+
+impl Model for Folder {
+    ghost use Rattle.std.specs.Prelude.{List};
+    ghost use Rattle.mq_file.specs.FolderHistory.{FolderCall};
+
+    ghost Value = { List FolderCall };
+
+    ghost view = { λ f. f.history.calls };
 }
 
 impl Folder {
@@ -22,7 +41,7 @@ impl Folder {
     ///
     /// Errors:
     /// - `Folder` if it can't be created, opened or locked.
-    /// - `Unwritten` if the name of a new folder can't be made durable.
+    /// - `Full` or `Unwritten` if the name of a new folder can't be made durable.
     /// - `InUse` if another process has it.
     /// - `Memory` if an allocation fails.
     pub fn open<R: Files<File = File>>(
@@ -38,20 +57,22 @@ impl Folder {
             return Err(FolderError::Folder);
         };
         check_lock(folder.try_lock())?;
-        Ok(Folder { folder })
+        let history = FolderRecord::new();
+        Ok(Folder { folder, history })
     }
 
-    /// Makes the names of the folder durable. Returns `Unwritten` if that fails.
+    /// Makes the names of the folder durable. Returns `Full` or `Unwritten` if that fails.
     pub fn sync(&self) -> Result<(), FolderError>
-        ensures { IfErr result (λ why. why ≡ FolderError.Unwritten) }
+        ensures { IfErr result IsNotWritten }
     {
         written(self.folder.sync_all())
     }
 
     /// Replaces a file of the folder by one with these bytes, and continues in another journal, as
-    /// [`switch`] does. Only the user may read the new files. Returns `Unwritten` if that fails.
+    /// [`switch`] does. Only the user may read the new files. Returns `Full` or `Unwritten` if that
+    /// fails.
     pub fn switch<R: Files<File = File>>(
-        &self,
+        &mut self,
         rt: &R,
         next: &str,
         path: &str,
@@ -59,53 +80,140 @@ impl Folder {
         first: &str,
         second: &str,
     ) -> Result<(), FolderError>
-        ensures { IfErr result (λ why. why ≡ FolderError.Unwritten) }
+        ensures ok { AreApart next.now path.now first.now second.now → OnOk result
+            (IsSwitched path.now bytes.now first.now second.now (files_after self.old).now (files_after self.new).now) }
+        ensures at_any_time { AreApart next.now path.now first.now second.now →
+            Throughout (IsEitherPair path.now bytes.now first.now second.now) (Some (files_after self.old)) (Some (files_after self.new)) }
+        ensures why { IfErr result IsNotWritten }
     {
-        let mut files = FolderFiles { rt, folder: self };
-        switch(&mut files, next, path, bytes, first, second)
+        let history = mem::replace(&mut self.history, FolderRecord::new());
+        let mut files = FolderFiles {
+            rt,
+            folder: &self.folder,
+            history,
+        };
+        let switched = switch(&mut files, next, path, bytes, first, second);
+        let FolderFiles { history, .. } = files;
+        self.history = history;
+        switched
     }
 
-    /// Removes a file, if it exists. Returns `Unwritten` if that fails.
-    pub fn remove<R: Files<File = File>>(&self, rt: &R, path: &str) -> Result<(), FolderError>
-        ensures { IfErr result (λ why. why ≡ FolderError.Unwritten) }
+    /// Removes a file, if it exists. Returns `Full` or `Unwritten` if that fails.
+    pub fn remove<R: Files<File = File>>(&mut self, rt: &R, path: &str) -> Result<(), FolderError>
+        ensures ok { OnOk result (Removed path.now (files_after self.old).now (files_after self.new).now) }
+        ensures why { IfErr result IsNotWritten }
     {
-        let mut files = FolderFiles { rt, folder: self };
-        written(files.remove(path))
+        let history = mem::replace(&mut self.history, FolderRecord::new());
+        let mut files = FolderFiles {
+            rt,
+            folder: &self.folder,
+            history,
+        };
+        let removed = files.remove(path);
+        let FolderFiles { history, .. } = files;
+        self.history = history;
+        written(removed)
     }
 }
 
-// The files of a folder of the system. No contract of the system says what a file has.
-#[derive(Clone, Copy)]
+const WROTE: u64 = 0;
+
+const STUMBLED: u64 = 1;
+
+const MOVED: u64 = 2;
+
+const GONE: u64 = 3;
+
+const SYNCED: u64 = 4;
+
+const FAILED: u64 = 5;
+
+// The files of a folder of the system. Contracts see them by the record of their calls. Whether
+// they have what the calls report is not proved.
+#[derive(Drop)]
 struct FolderFiles<'a, R: Files<File = File>> {
     rt: &'a R,
-    folder: &'a Folder,
+    folder: &'a File,
+    history: FolderRecord,
+}
+
+// Writes a whole file anew, durably.
+fn write_file<R: Files<File = File>>(rt: &R, name: &str, bytes: &[u8]) -> io::Result<()> {
+    let mut file = OpenOptions::new()
+        .write(true)
+        .create(true)
+        .truncate(true)
+        .mode(0o600)
+        .open(rt, name)?;
+    file.write_all(bytes)?;
+    file.sync_all()
+}
+
+// Removes a file, if it exists.
+fn remove_file<R: Files<File = File>>(rt: &R, name: &str) -> io::Result<()> {
+    match fs::remove_file(rt, name) {
+        Err(error) if error.kind() == ErrorKind::NotFound => Ok(()),
+        removed => removed,
+    }
 }
 
 impl<R: Files<File = File>> NamedFiles for FolderFiles<'_, R> {
+    ghost folder = { λ f. Some (files_after f.history.calls) };
+
+    #[tactic(auto, using(crate::proofs::Folders::file_not_written))]
     fn write_new(&mut self, name: &str, bytes: &[u8]) -> io::Result<()> {
-        let mut file = OpenOptions::new()
-            .write(true)
-            .create(true)
-            .truncate(true)
-            .mode(0o600)
-            .open(self.rt, name)?;
-        file.write_all(bytes)?;
-        file.sync_all()
-    }
-
-    fn rename(&mut self, from: &str, to: &str) -> io::Result<()> {
-        fs::rename(self.rt, from, to)
-    }
-
-    fn remove(&mut self, name: &str) -> io::Result<()> {
-        match fs::remove_file(self.rt, name) {
-            Err(error) if error.kind() == ErrorKind::NotFound => Ok(()),
-            removed => removed,
+        match write_file(self.rt, name, bytes) {
+            Ok(()) => {
+                self.history.note(&[WROTE], name.as_bytes(), bytes);
+                Ok(())
+            }
+            Err(error) => {
+                self.history.note(&[STUMBLED], name.as_bytes(), &[]);
+                Err(error)
+            }
         }
     }
 
+    #[tactic(auto, using(crate::proofs::Folders::file_moved, crate::proofs::Folders::nothing_done))]
+    fn rename(&mut self, from: &str, to: &str) -> io::Result<()> {
+        match fs::rename(self.rt, from, to) {
+            Ok(()) => {
+                self.history.note(&[MOVED], from.as_bytes(), to.as_bytes());
+                Ok(())
+            }
+            Err(error) => {
+                self.history.note(&[FAILED], &[], &[]);
+                Err(error)
+            }
+        }
+    }
+
+    #[tactic(auto, using(crate::proofs::Folders::file_gone, crate::proofs::Folders::nothing_done))]
+    fn remove(&mut self, name: &str) -> io::Result<()> {
+        match remove_file(self.rt, name) {
+            Ok(()) => {
+                self.history.note(&[GONE], name.as_bytes(), &[]);
+                Ok(())
+            }
+            Err(error) => {
+                self.history.note(&[FAILED], &[], &[]);
+                Err(error)
+            }
+        }
+    }
+
+    #[tactic(auto, using(crate::proofs::Folders::names_synced, crate::proofs::Folders::nothing_done))]
     fn sync(&mut self) -> io::Result<()> {
-        self.folder.folder.sync_all()
+        match self.folder.sync_all() {
+            Ok(()) => {
+                self.history.note(&[SYNCED], &[], &[]);
+                Ok(())
+            }
+            Err(error) => {
+                self.history.note(&[FAILED], &[], &[]);
+                Err(error)
+            }
+        }
     }
 }
 
@@ -117,20 +225,16 @@ fn sync_parent<R: Files<File = File>>(
     path: &str,
     is_new: bool,
 ) -> Result<(), FolderError>
-    ensures { IfErr result (λ why. (why ≡ FolderError.Memory) ⊎ (why ≡ FolderError.Unwritten)) }
+    ensures { IfErr result (λ why. (why ≡ FolderError.Memory) ⊎ IsNotWritten why) }
 {
     let Ok(name) = format!(in alloc; "{path}/..") else {
         return Err(FolderError::Memory);
     };
     let synced = match File::open(rt, name.as_str()) {
-        Ok(parent) => parent.sync_all().is_ok(),
-        Err(_) => false,
+        Ok(parent) => parent.sync_all(),
+        Err(error) => Err(error),
     };
-    if synced || !is_new {
-        Ok(())
-    } else {
-        Err(FolderError::Unwritten)
-    }
+    if is_new { written(synced) } else { Ok(()) }
 }
 
 // Reads the rest of a file, and makes it durable.

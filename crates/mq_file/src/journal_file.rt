@@ -1,7 +1,8 @@
 //! A file of the system as a disk.
 
-ghost use Rattle.std.specs.Prelude.{◌≡◌, [], length, IfOk};
-ghost use Rattle.mq_file.specs.History.{LeftSince, MayLeave, failures, seen_after};
+ghost use Rattle.std.specs.Prelude.{◌≡◌, ◌≤◌, ◌+◌, [], length, max, IfOk, IfSome, OnErr, OnOk};
+ghost use Rattle.mq_log.specs.Disk.{Elapses, Follows, HasCause, Holds, Torn};
+ghost use Rattle.mq_file.specs.History.{LeftSince, MayLeave, failures, file_size, seen_after};
 ghost use Rattle.mq_file.specs.Times.{left_now, now_only};
 
 use crate::record::Record;
@@ -9,6 +10,7 @@ use mq_log::{Disk, DiskError};
 use std::alloc::Global;
 use std::fs::{File, OpenOptions};
 use std::io;
+use std::marker::Model;
 use std::os::unix::fs::FileExt;
 use std::rt::Files;
 
@@ -31,23 +33,44 @@ const FAILED: u64 = 3;
 
 /// A file of the system that is written from its beginning, and never read.
 ///
-/// With [`Keep::System`] a sync does nothing. Then the model of a crash is that of a process, whose
+/// Contracts see it as its calls, newest first, from which its content follows. With
+/// [`Keep::System`] a sync does nothing. Then the model of a crash is that of a process, whose
 /// writes survive it.
 #[derive(Drop)]
 pub struct JournalFile {
     file: File,
     keep: Keep,
-    /// The end of the furthest write.
-    pub size: u64,
+    // The number of bytes of the content.
+    size: u64,
     history: Record,
 }
 
-impl JournalFile {
-    ghost use Rattle.mq_file.specs.Files.{calls_of};
+impl Model for JournalFile {
+    ghost use Rattle.std.specs.Prelude.{◌≡◌, List};
+    ghost use Rattle.mq_file.specs.History.{FileCall, file_size};
 
+    ghost Value = { List FileCall };
+
+    ghost view = { λ f. f.history.calls };
+
+    ghost invariant = { λ f. f.size ≡ file_size f.history.calls };
+}
+
+// Writes bytes at an offset. Returns the offset behind them, or `None` if that failed.
+fn write_all(file: &File, at: u64, bytes: &[u8]) -> Option<u64>
+    ensures { IfSome result (λ end. end ≡ at + length bytes.now) }
+{
+    let end = at.checked_add(bytes.len() as u64)?;
+    match file.write_all_at(bytes, at) {
+        Ok(()) => Some(end),
+        Err(_) => None,
+    }
+}
+
+impl JournalFile {
     /// Opens a file that exists and is durable, and empties it.
     pub fn empty<R: Files<File = File>>(rt: &R, path: &str, keep: Keep) -> io::Result<JournalFile>
-        ensures { IfOk result (λ file. calls_of file ≡ []) }
+        ensures { IfOk result (λ file. file ≡ []) }
     {
         let file = OpenOptions::new()
             .write(true)
@@ -61,39 +84,52 @@ impl JournalFile {
             history,
         })
     }
+
+    /// The number of bytes of the content. A write that failed is not counted.
+    pub fn size(&self) -> u64
+        ensures { result ≡ file_size self.now }
+    {
+        self.size
+    }
 }
 
 impl Disk for JournalFile {
-    ghost seen = { λ f. seen_after f.history.calls };
+    ghost seen = { λ f. seen_after f };
 
-    ghost may_leave = { λ f. MayLeave f.history.calls };
+    ghost may_leave = { λ f. MayLeave f };
 
-    ghost clock = { λ f. length f.history.calls };
+    ghost clock = { λ f. length f };
 
-    ghost left_since = { λ f. LeftSince f.history.calls };
+    ghost left_since = { λ f. LeftSince f };
 
-    ghost faults = { λ f. failures f.history.calls };
+    ghost faults = { λ f. failures f };
 
-    ghost counts_now = { λ f. left_now f.history.calls };
+    ghost counts_now = { λ f. left_now f };
 
-    ghost only_now = { λ f. now_only f.history.calls };
+    ghost only_now = { λ f. now_only f };
 
     fn read(&mut self, _alloc: Global) -> Result<Vec<u8>, DiskError> {
         self.history.note(&[FAILED, 0], &[]);
         Err(DiskError::Failed)
     }
 
-    #[tactic(auto, using(crate::proofs::Contents::write_leaves))]
-    fn write_at(&mut self, at: usize, bytes: &[u8]) -> Result<(), DiskError> {
+    fn write_at(&mut self, at: usize, bytes: &[u8]) -> Result<(), DiskError>
+        requires { at ≤ file_size self.old }
+        ensures written { OnOk result (Holds (seen_after self.old) at bytes.now (seen_after self.new)) }
+        ensures size { OnOk result (file_size self.new ≡ max (file_size self.old) (at + length bytes.now)) }
+        ensures size_kept { OnErr result (file_size self.new ≡ file_size self.old) }
+        ensures crash { Follows (Torn at (length bytes.now)) (MayLeave self.old) (MayLeave self.new) }
+        ensures time { Elapses (length self.old) (length self.new) (LeftSince self.old) (LeftSince self.new) (MayLeave self.new) }
+        ensures cause { HasCause (failures self.old) (failures self.new) result }
+    {
         let at64 = at as u64;
-        match self.file.write_all_at(bytes, at64) {
-            Ok(()) => {
+        match write_all(&self.file, at64, bytes) {
+            Some(end) => {
                 self.history.note(&[WROTE, at64], bytes);
-                let end = at64.saturating_add(bytes.len() as u64);
                 self.size = self.size.max(end);
                 Ok(())
             }
-            Err(_) => {
+            None => {
                 self.history.note(&[STUMBLED, at64], bytes);
                 Err(DiskError::Failed)
             }

@@ -1,13 +1,14 @@
 //! A file of the system as a `Disk` of `mq_log`, and the folder that has it.
 //!
-//! Contracts see a file by the record of its calls, from which the content and the outcomes of a
-//! crash follow. Whether a real file does what the calls report is not proved.
+//! Contracts see a file or a folder by the record of its calls, from which the content and the
+//! outcomes of a crash follow. Whether a real one does what the calls report is not proved.
 //!
 //! Unless stated otherwise, a call that allocates returns a `Result`.
 #![tactic(auto)]
 
 mod error;
 mod folder;
+mod folder_record;
 mod journal_file;
 mod named_files;
 mod record;

@@ -1,9 +1,10 @@
 //! Files by name, how one is replaced, and how a folder continues in another journal.
 
 ghost use Rattle.std.specs.Prelude.{◌≡◌, List, [], ℕ, None, Option, IfErr, OnErr, OnOk};
+ghost use Rattle.mq_file.specs.Folders.{IsNotWritten};
 ghost use Rattle.mq_file.specs.Named.{AreApart, Content, Files, IsEitherPair, IsOldOrNew, IsReplaced, IsSwitched, Leads, OthersAreKept, OthersStay, Related, Removed, Renamed, Synced, Throughout, Unchanged, Writes};
 
-use crate::error::FolderError;
+use crate::error::{FolderError, written};
 use std::io;
 
 /// The files of a folder, by name.
@@ -38,7 +39,8 @@ pub trait NamedFiles {
 /// Replaces a file by one with these bytes. The new file is written to `next` first, which must be
 /// another name. A crash at any time leaves the old file or the new one, after `Ok` the new one.
 ///
-/// Error: `Unwritten` if a call failed. No further call is made then.
+/// Errors: `Full` if the disk is full, `Unwritten` if a call failed otherwise. No further call is
+/// made then.
 #[tactic(auto, using(crate::proofs::Replacing::unwritten, crate::proofs::Replacing::unnamed, crate::proofs::Replacing::unsynced, crate::proofs::Replacing::replaced, crate::proofs::Replacing::replaced_always))]
 pub fn replace<F: NamedFiles>(
     files: &mut F,
@@ -48,18 +50,11 @@ pub fn replace<F: NamedFiles>(
 ) -> Result<(), FolderError>
     ensures ok { ¬ name.now ≡ next.now → OnOk result (Leads (IsReplaced name.now bytes.now) (F.folder files.old) (F.folder files.new)) }
     ensures at_any_time { ¬ name.now ≡ next.now → Throughout (IsOldOrNew next.now name.now bytes.now) (F.folder files.old) (F.folder files.new) }
-    ensures why { IfErr result (λ why. why ≡ FolderError.Unwritten) }
+    ensures why { IfErr result IsNotWritten }
 {
-    if files.write_new(next, bytes).is_err() {
-        return Err(FolderError::Unwritten);
-    }
-    if files.rename(next, name).is_err() {
-        return Err(FolderError::Unwritten);
-    }
-    match files.sync() {
-        Ok(()) => Ok(()),
-        Err(_) => Err(FolderError::Unwritten),
-    }
+    written(files.write_new(next, bytes))?;
+    written(files.rename(next, name))?;
+    written(files.sync())
 }
 
 // Makes an empty file, whose name is durable afterwards.
@@ -67,15 +62,10 @@ pub fn replace<F: NamedFiles>(
 fn make_empty<F: NamedFiles>(files: &mut F, name: &str) -> Result<(), FolderError>
     ensures ok { OnOk result (Leads (IsReplaced name.now []) (F.folder files.old) (F.folder files.new)) }
     ensures at_any_time { Throughout (OthersAreKept name.now) (F.folder files.old) (F.folder files.new) }
-    ensures why { IfErr result (λ why. why ≡ FolderError.Unwritten) }
+    ensures why { IfErr result IsNotWritten }
 {
-    if files.write_new(name, &[]).is_err() {
-        return Err(FolderError::Unwritten);
-    }
-    match files.sync() {
-        Ok(()) => Ok(()),
-        Err(_) => Err(FolderError::Unwritten),
-    }
+    written(files.write_new(name, &[]))?;
+    written(files.sync())
 }
 
 /// Replaces a file that names a journal, and continues in another journal: makes the empty journal
@@ -84,7 +74,8 @@ fn make_empty<F: NamedFiles>(files: &mut F, name: &str) -> Result<(), FolderErro
 /// A crash at any time leaves the old file and the old journal, or the new file and the new
 /// journal.
 ///
-/// Error: `Unwritten` if a call failed. No further call is made then.
+/// Errors: `Full` if the disk is full, `Unwritten` if a call failed otherwise. No further call is
+/// made then.
 #[tactic(auto, using(crate::proofs::Switching::not_begun, crate::proofs::Switching::not_replaced, crate::proofs::Switching::switched_always, crate::proofs::Switching::switched, crate::proofs::Replacing::removed_kept, crate::proofs::Replacing::unchanged_kept))]
 pub fn switch<F: NamedFiles>(
     files: &mut F,
@@ -98,12 +89,9 @@ pub fn switch<F: NamedFiles>(
         (Leads (IsSwitched name.now bytes.now first.now second.now) (F.folder files.old) (F.folder files.new)) }
     ensures at_any_time { AreApart next.now name.now first.now second.now →
         Throughout (IsEitherPair name.now bytes.now first.now second.now) (F.folder files.old) (F.folder files.new) }
-    ensures why { IfErr result (λ why. why ≡ FolderError.Unwritten) }
+    ensures why { IfErr result IsNotWritten }
 {
     make_empty(files, second)?;
     replace(files, next, name, bytes)?;
-    match files.remove(first) {
-        Ok(()) => Ok(()),
-        Err(_) => Err(FolderError::Unwritten),
-    }
+    written(files.remove(first))
 }

@@ -1,5 +1,6 @@
 mod Appends
 mod Configurations
+mod Continuing
 mod Lasting
 mod Opens
 mod Restores

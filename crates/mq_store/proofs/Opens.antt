@@ -7,7 +7,6 @@ use Rattle.mq_log.specs.Blocks.{at_rest}
 use Rattle.mq_durable.specs.declared.condition.Condition.TheVariants.{Sound}
 use Rattle.mq_durable.specs.State.{DurableState}
 use Rattle.mq_file.specs.declared.journal_file.JournalFile.{JournalFile}
-use Rattle.mq_file.specs.Files.{calls_of}
 use Rattle.mq_file.specs.History.{seen_after}
 use Rattle.mq_store.specs.Restoring.{IsFound, IsOpened, IsRestored}
 use Rattle.mq_store.proofs.Restores.{no_events}
@@ -20,14 +19,14 @@ found_saved config file journal hub events restored = inr (file, (journal, resto
 
 pub opened : (config : HubConfig) (hub : HubState) (durable : DurableState JournalFile) (disk : JournalFile) (events clock : ℕ)
     → durable ≡ record { base = hub; hub = hub; pending = []; disk = disk; condition = Sound }
-    → seen_after (calls_of disk) ≡ at_rest [] → MayBegin hub → clock ≡ hub.clock → IsFound config hub events → IsOpened config durable events clock
+    → seen_after disk ≡ at_rest [] → MayBegin hub → clock ≡ hub.clock → IsFound config hub events → IsOpened config durable events clock
 opened config hub durable disk events clock is begun may timed found =
     subst (λ (d : DurableState JournalFile). IsOpened config d events clock) (sym is) record {
       found = found;
       may_begin = may;
       base = refl;
       pending = refl;
-      recorded = no_events (seen_after (calls_of disk)) begun;
+      recorded = no_events (seen_after disk) begun;
       sound = refl;
       clock_is = timed;
     }

@@ -10,13 +10,14 @@ use Rattle.mq_durable.specs.declared.fault.RecoverError.TheVariants as recoverie
 use Rattle.mq_snapshot.specs.declared.fault.SnapshotFault.{SnapshotFault}
 use Rattle.mq_snapshot.specs.declared.fault.SnapshotFault.TheVariants as snapshots
 use Rattle.mq_store.specs.declared.fault.StoreError.{StoreError}
-use Rattle.mq_store.specs.declared.fault.StoreError.TheVariants.{InUse, Folder, Unreadable, Unwritten, Snapshot, Capacity, TooLarge, Damaged, Entry, Refused, Memory}
+use Rattle.mq_store.specs.declared.fault.StoreError.TheVariants.{InUse, Folder, Unreadable, Unwritten, Full, Snapshot, Capacity, TooLarge, Damaged, Entry, Refused, Memory}
 
 abbrev pub of_folder : FolderError → StoreError
 of_folder folders.InUse = InUse
 of_folder folders.Folder = Folder
 of_folder folders.Unreadable = Unreadable
 of_folder folders.Unwritten = Unwritten
+of_folder folders.Full = Full
 of_folder folders.Memory = Memory
 
 abbrev pub of_recovery : RecoverError → StoreError

@@ -1,4 +1,5 @@
 pub mod Configuration
+pub mod Continued
 pub mod Faults
 pub mod Restoring
 pub mod SnapshotFile

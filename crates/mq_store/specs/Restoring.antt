@@ -9,7 +9,6 @@ use Rattle.mq_durable.specs.Recovering.{HasEnded}
 use Rattle.mq_durable.specs.Replaying.{Replays}
 use Rattle.mq_durable.specs.State.{DurableState}
 use Rattle.mq_file.specs.declared.journal_file.JournalFile.{JournalFile}
-use Rattle.mq_file.specs.Files.{calls_of}
 use Rattle.mq_file.specs.History.{seen_after}
 use Rattle.mq_route.specs.Begun.{MayBegin}
 use Rattle.mq_route.specs.declared.config.HubConfig.{HubConfig}
@@ -67,6 +66,6 @@ pub record IsOpened (config : HubConfig) (new : DurableState JournalFile) (event
   pub may_begin : MayBegin new.hub
   pub base : new.base ≡ new.hub
   pub pending : new.pending ≡ []
-  pub recorded : events_of (seen_after (calls_of new.disk)) ≡ []
+  pub recorded : events_of (seen_after new.disk) ≡ []
   pub sound : new.condition ≡ Sound
   pub clock_is : clock ≡ new.hub.clock

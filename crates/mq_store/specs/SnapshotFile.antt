@@ -19,6 +19,10 @@ abbrev pub parts_of : ℕ → List ℕ → List ℕ → List ℕ
 parts_of nth config hub =
     file_signature ++ (eight nth ++ (text_bytes config ++ text_bytes hub))
 
+-- the file of a broker with a configuration, as bytes, and the number of the journal
+abbrev pub saved_file : ℕ → List ℕ → HubState → List ℕ
+saved_file nth config hub = with_digest (parts_of nth config (snapshot hub))
+
 -- the file of a broker whose later events are in the journal of this number
 abbrev pub snapshot_file : ℕ → HubState → List ℕ
 snapshot_file nth hub = with_digest (parts_of nth (config_bytes hub.config) (snapshot hub))

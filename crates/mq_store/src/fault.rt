@@ -25,6 +25,9 @@ pub enum StoreError {
     /// A file can't be written.
     #[error("a file of the folder cannot be written")]
     Unwritten,
+    /// A file can't be written, because the disk is full.
+    #[error("a file of the folder cannot be written: the disk is full")]
+    Full,
     /// The folder is one of an earlier version.
     #[error("it has a journal of an earlier version: use that version, or an empty folder")]
     Earlier,
@@ -86,6 +89,7 @@ impl From<FolderError> for StoreError {
             FolderError::Folder => StoreError::Folder,
             FolderError::Unreadable => StoreError::Unreadable,
             FolderError::Unwritten => StoreError::Unwritten,
+            FolderError::Full => StoreError::Full,
             FolderError::Memory => StoreError::Memory,
         }
     }

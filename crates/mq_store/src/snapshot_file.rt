@@ -3,7 +3,7 @@
 ghost use Rattle.std.specs.Prelude.{◌≡◌, ◌++◌, IfOk};
 ghost use Rattle.mq_route.specs.Snapshot.{IsKeptWhole, snapshot};
 ghost use Rattle.mq_store.specs.Configuration.{config_bytes, text_bytes};
-ghost use Rattle.mq_store.specs.SnapshotFile.{file_signature, parts_of, with_digest};
+ghost use Rattle.mq_store.specs.SnapshotFile.{file_signature, parts_of, saved_file, with_digest};
 
 use crate::configuration::put_text;
 use crate::fault::StoreError;
@@ -40,7 +40,7 @@ pub(crate) fn snapshot_bytes(
     config: &[u8],
     hub: &Hub,
 ) -> Result<Vec<u8>, AllocError>
-    ensures { IfOk result (λ bytes. bytes.items ≡ with_digest (parts_of nth config.now (snapshot hub.now))) }
+    ensures { IfOk result (λ bytes. bytes.items ≡ saved_file nth config.now hub.now) }
 {
     let saved = hub.save()?;
     let mut out = parts_bytes(alloc, nth, config, saved.as_slice())?;

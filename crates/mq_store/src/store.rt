@@ -169,7 +169,7 @@ fn begin_store<R: Files<File = File>>(
 /// If a call fails before that, nothing in the folder changes. Errors:
 ///
 /// - `InUse` if another process has the folder.
-/// - `Folder`, `Unreadable` or `Unwritten` if a call of the system fails.
+/// - `Folder`, `Unreadable`, `Unwritten` or `Full` if a call of the system fails.
 /// - `Earlier` if the folder is one of an earlier version.
 /// - `NoSnapshot` or `Gap` if a file is missing.
 /// - `Version` or `Snapshot` if the snapshot is of another version or damaged.

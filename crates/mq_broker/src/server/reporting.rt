@@ -1,6 +1,7 @@
 //! The log of the rounds.
 
 use super::Server;
+use crate::snapshot::LastSnapshot;
 use mq_loop::{Broker, Report};
 use std::io::Write;
 
@@ -20,6 +21,13 @@ impl<B: Broker + Drop, L: Write + Drop> Server<B, L> {
             }
         }
         self.log.flush();
+    }
+
+    // Writes to the log that a round made a snapshot.
+    pub(super) fn report_snapshot(&mut self, last: &LastSnapshot) {
+        if let Some(note) = last.take() {
+            self.log.snapshot(note);
+        }
     }
 
     fn take_report(&mut self, report: &Report) {
