@@ -342,6 +342,14 @@ module _ (at : ℕ → Option Qos) (begun : Entries) where
     sound = w.sound;
   }
 
+-- the clients of a map are gathered by a copy of it
+pub gathers_copy : (at : ℕ → Option Qos) (found es : Entries) → found ≡ [] → ((c : ℕ) → lookup (is_client c) es ≡ at c) → Gathers (λ c q. at c ≡ Some q) found es
+gathers_copy at found es none same = record {
+  kept = λ c q w. absurd (let clash : None ≡ Some w.0 = sym (ap (qos_of c) none) ∙ w.1 in cc);
+  finds = λ c q h. (q, qos_of-lookup c es ∙ same c ∙ h, itself q);
+  sound = λ c q e. inr (sym (same c) ∙ sym (qos_of-lookup c es) ∙ e);
+}
+
 pub gathers_same : (P Q : ℕ → Qos → Type 0) (a b : Entries) → ((c : ℕ) (q : Qos) → P c q → Q c q) → ((c : ℕ) (q : Qos) → Q c q → P c q) → Gathers P a b → Gathers Q a b
 gathers_same P Q a b to from g = record {
   kept = g.kept;

@@ -115,6 +115,10 @@ fn note(found: &mut Found, client: ClientKey, qos: Qos) -> Result<(), AllocError
 fn gather_map(clients: &BTreeMap<ClientKey, Qos>, found: &mut Found) -> Result<(), AllocError>
     ensures { OnOk result (Gathers (λ c q. lookup (λ d. is_eq (nat_cmp c d)) clients.now.entries ≡ Some q) found.old.entries found.new.entries) }
 {
+    if found.is_empty() {
+        *found = clients.clone()?;
+        return Ok(());
+    }
     'clients: for (client, qos) in clients.iter() {
         note(found, *client, *qos)?;
     }
