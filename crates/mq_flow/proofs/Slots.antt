@@ -1,6 +1,6 @@
 -- The slots of a table: where the entry of an identifier is, as entries are added, removed and
 -- moved together.
-use Rattle.std.proofs.Common.{◌≡◌, ℕ, zero, suc, ◌+◌, ◌-◌, ◌<◌, ◌≤◌, ◌∙◌, Bool, true, false, cond, eqb, ltb, List, [], ◌∷◌, ◌++◌, map, filter, length, take, drop, get_or, add-one, append_assoc, append-nil, Option, Some, None, IsSome, refl, sym, ap, subst, arith, inl, inr}
+use Rattle.std.proofs.Common.{◌≡◌, ℕ, suc, ◌+◌, ◌-◌, ◌<◌, ◌≤◌, ◌∙◌, Bool, true, false, cond, eqb, ltb, List, [], ◌∷◌, ◌++◌, map, filter, length, take, drop, get_or, add-one, append_assoc, append-nil, Option, Some, None, IsSome, lit≤, refl, sym, ap, subst, arith, inl, inr}
 use Rattle.std.specs.Option.{is_some, option_map}
 use Rattle.std.specs.Map.{keys_of, lookup, remove_entry}
 use Rattle.std.proofs.Math.ListN.{set}
@@ -8,7 +8,7 @@ use Rattle.std.proofs.Math.Seq.{set-append_seam, get_or-append_seam, drop-cons}
 use Rattle.std.proofs.Math.ListN.{length-set}
 use Rattle.std.proofs.lemmas.Bool.{cases_eq, ne_eqb, le-ltb, lt-ltb}
 use Rattle.std.proofs.lemmas.Grind.{flat_map-append}
-use Rattle.std.proofs.lemmas.List.{map-append, length-append, length-take-le, length-map, take_more, take-append-drop}
+use Rattle.std.proofs.lemmas.List.{map-append, length-append, length-take-le, length-map, nil_from_length, take_more, take-append-drop}
 use Rattle.mq_flow.specs.declared.table.Held.{Held}
 use Rattle.mq_flow.specs.Sender.{times}
 use Rattle.mq_flow.specs.Held.{id_in, gone_out, pair_in, pairs_in, is_under, later, place_from, IsPlaced}
@@ -290,6 +290,25 @@ from_none at i (x ∷ xs) e = go (place_from (at + 1) i xs) refl (λ w. from_non
 
 pub holds_none : (xs : List (Option Held)) (f : ℕ → Option ℕ) (n i : ℕ) → IsPlaced xs f n → f i ≡ None → times i (keys_of (pairs_in xs)) ≡ 0
 holds_none xs f n i p e = from_none 0 i xs (sym (p.at i) ∙ e)
+
+-- Slots without entries are as good as no slots.
+module _ (xs : List (Option Held)) (f : ℕ → Option ℕ) (n : ℕ) (p : IsPlaced xs f n) (none : n ≡ 0) where
+  pub no_pairs : pairs_in xs ≡ []
+  no_pairs = nil_from_length (pairs_in xs) (sym p.many ∙ none)
+
+  nowhere : (i : ℕ) (o : Option ℕ) → f i ≡ o → f i ≡ None
+  nowhere i None e = e
+  nowhere i (Some k) e =
+      let there = holds xs f n i k p e in
+      let clash : None ≡ Some there.held = sym (ap (lookup (eqb i)) no_pairs) ∙ there.found in
+      absurd cc
+
+  pub no_slots : IsPlaced [] f n
+  no_slots = record {
+    at = λ i. nowhere i (f i) refl;
+    once = λ i. lit≤ tt;
+    many = none;
+  }
 
 -- a pair goes
 pub record Taken (xs ys : List (Option Held)) (i m : ℕ) (g : ℕ → Option ℕ) : Type 0 where

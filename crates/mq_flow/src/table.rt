@@ -6,7 +6,7 @@ ghost use Rattle.std.specs.HashMap.{get, hash_map_len, spare};
 ghost use Rattle.std.specs.Map.{keys_of, lookup, remove_entry};
 ghost use Rattle.std.specs.Map.Iter.{ShowsInOrder, GivesInOrder, deref};
 ghost use Rattle.mq_flow.specs.declared.entry.Entry.{Entry};
-ghost use Rattle.mq_flow.specs.Held.{bytes_in, bytes_under, messages, releases, gone_out, id_in, pairs_in, IsPlaced};
+ghost use Rattle.mq_flow.specs.Held.{bytes_found, bytes_in, bytes_under, messages, releases, gone_out, id_in, pairs_in, IsPlaced};
 ghost use Rattle.mq_flow.specs.Sender.{times};
 ghost use Rattle.mq_flow.specs.Stored.{entry_bytes};
 ghost use Rattle.mq_flow.specs.declared.table.Held.{Held};
@@ -228,8 +228,8 @@ impl Table {
         ensures pairs { self.new.pairs ≡ remove_entry (nat_eq id) self.old.pairs }
         ensures spare { self.old.spare ≤ self.new.spare }
     {
-        self.bytes -= self.bytes_of(id);
-        take_out(&mut self.slots, &mut self.places, id);
+        let taken = take_out(&mut self.slots, &mut self.places, id);
+        self.bytes -= taken_bytes(&taken);
     }
 
     /// Removes everything.
@@ -262,6 +262,16 @@ fn held_bytes(held: &Held) -> u64
     }
 }
 
+/// Returns the number of these bytes of an entry that was taken out; 0 without an entry.
+fn taken_bytes(taken: &Option<Held>) -> u64
+    ensures { result ≡ bytes_found taken.now }
+{
+    match taken {
+        Some(held) => held_bytes(held),
+        None => 0,
+    }
+}
+
 /// Returns the entry in a slot.
 fn held_at(slots: &[Option<Held>], at: usize) -> Option<&Held>
     requires { at < length slots.now }
@@ -282,7 +292,7 @@ fn turn_last(slots: &mut Vec<Option<Held>>, places: &mut HashMap<u16, usize>, he
 {
     move_up(slots, places);
     if let Some(at) = move_place(places, held.id(), slots.len()) {
-        empty(slots, at);
+        let _ = empty(slots, at);
         slots.push_reserved(Some(held));
     }
 }
@@ -300,26 +310,36 @@ fn move_place(places: &mut HashMap<u16, usize>, id: PacketId, to: usize) -> Opti
     Some(at)
 }
 
-/// Removes the entry of an identifier.
-fn take_out(slots: &mut Vec<Option<Held>>, places: &mut HashMap<u16, usize>, id: PacketId)
+/// Removes the entry of an identifier, and returns it. Drops the slots with the last entry, so that
+/// they need not move together soon.
+fn take_out(
+    slots: &mut Vec<Option<Held>>,
+    places: &mut HashMap<u16, usize>,
+    id: PacketId,
+) -> Option<Held>
     requires { IsPlaced slots.old.items (get nat_eq places.old) (hash_map_len places.old) }
+    ensures taken { result ≡ lookup (nat_eq id) (pairs_in slots.old.items) }
     ensures placed { IsPlaced slots.new.items (get nat_eq places.new) (hash_map_len places.new) }
     ensures pairs { pairs_in slots.new.items ≡ remove_entry (nat_eq id) (pairs_in slots.old.items) }
     ensures capacity { vec_capacity slots.new ≡ vec_capacity slots.old }
     ensures spare { spare places.old ≤ spare places.new }
 {
-    if let Some(at) = places.remove(&id.get()) {
-        empty(slots, at);
+    let at = places.remove(&id.get())?;
+    let held = empty(slots, at);
+    if places.is_empty() {
+        slots.clear();
     }
+    held
 }
 
-/// Empties a place.
-fn empty(slots: &mut Vec<Option<Held>>, at: usize)
+/// Empties a slot. Returns its entry.
+fn empty(slots: &mut Vec<Option<Held>>, at: usize) -> Option<Held>
     requires { at < length slots.old.items }
+    ensures was { result ≡ slice_index_or slots.old.items at None }
     ensures items { slots.new.items ≡ slice_set slots.old.items at None }
     ensures capacity { vec_capacity slots.new ≡ vec_capacity slots.old }
 {
-    slots[at] = None;
+    slots[at].take()
 }
 
 /// Puts a new pair last.
