@@ -1,8 +1,7 @@
 -- Planned copies, and sessions with room for them.
-use Rattle.std.proofs.Common.{◌≡◌, ℕ, ◌<◌, Bool, true, false, cond, ◌&&◌, List, [], ◌∷◌, ◌++◌, Option, Some, is_some, Result, Ok, Err, IfOk, T, refl, sym, ap, ap₂, ◌∙◌, append_assoc, eqb, ne_eqb, arith}
+use Rattle.std.proofs.Common.{◌≡◌, ℕ, ◌<◌, Bool, true, false, cond, ◌&&◌, List, [], ◌∷◌, ◌++◌, Some, is_some, Result, Ok, Err, IfOk, T, refl, sym, ap, ap₂, ◌∙◌, append_assoc, eqb, ne_eqb, arith}
 use Rattle.std.specs.FinMap.{is_sorted}
 use Rattle.std.specs.FinMap.Entries.{below_all}
-use Rattle.std.specs.Option.{option_to_list}
 use Rattle.std.specs.Ordering.{nat_cmp, is_lt}
 use Rattle.std.specs.declared.cmp.Ordering.{Ordering}
 use Rattle.std.specs.declared.cmp.Ordering.TheVariants.{Less, Equal, Greater}
@@ -17,13 +16,6 @@ use Rattle.mq_route.specs.Work.{retained_copies}
 use Rattle.mq_hub.specs.Inside.Placement.{AreApart, AreUpAlike, copies_found, is_among}
 
 -- ---- copies for the clients that were found
-
-pub found_next : (connections : List HubConnection) (m : Message) (key : ℕ) (q : Qos) (later : List (ℕ × Qos)) (o : Option Message) (done : List (ℕ × Message))
-    → option_to_list o ≡ copy_by (is_some (up_on key connections)) m (Some q)
-    → (done ++ for_key key (option_to_list o)) ++ copies_found connections m later ≡ done ++ copies_found connections m ((key, q) ∷ later)
-found_next connections m key q later o done e =
-    append_assoc done (for_key key (option_to_list o)) (copies_found connections m later)
-    ∙ ap (λ (ms : List Message). done ++ (for_key key ms ++ copies_found connections m later)) e
 
 pub found_alike : (xs ys : List HubConnection) (m : Message) (found : List (ℕ × Qos)) → AreUpAlike xs ys → copies_found ys m found ≡ copies_found xs m found
 found_alike xs ys m [] alike = refl

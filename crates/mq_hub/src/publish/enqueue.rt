@@ -1,11 +1,12 @@
 //! The copies of a message, and their place in the sessions of the subscribers (3.3.5, 3.8.4).
 
-ghost use Rattle.std.specs.Prelude.{◌≡◌, ◌≤◌, ◌++◌, ◌∷◌, ◌&&◌, [], ℕ, List, not, true, false, IfOk, OnOk, Ok};
+ghost use Rattle.std.specs.Prelude.{◌≡◌, ◌≤◌, ◌++◌, ◌∷◌, ◌&&◌, ◌||◌, [], ℕ, List, not, true, false, is_some, IfOk, OnOk, Ok};
 ghost use Rattle.mq_packet.specs.declared.message.Message.{Message};
-ghost use Rattle.mq_route.specs.Hub.{HubState, copies_of, for_key};
+ghost use Rattle.mq_route.specs.Hub.{HubState, copies_of, for_key, up_on};
 ghost use Rattle.mq_route.specs.declared.act.Act.{Act};
 ghost use Rattle.mq_route.specs.declared.config.HubConfig.{HubConfig};
 ghost use Rattle.mq_route.specs.Work.{all_fit, lacks_room, place_all, retained_copies};
+ghost use Rattle.mq_end.specs.Both.{has_identifier};
 ghost use Rattle.mq_end.specs.Sizes.{publish_size};
 ghost use Rattle.mq_hub.specs.Inside.DeliveryPlan.{AreShared};
 ghost use Rattle.mq_hub.specs.Inside.Refinement.{Refines};
@@ -15,7 +16,7 @@ ghost use Rattle.mq_hub.specs.Inside.Placement.{placed_acts, with_list, AreHeard
 ghost use Rattle.mq_hub.specs.Inside.View.{HubTables, hub_of};
 
 use crate::connections::table::Connections;
-use crate::publish::recipients::is_hidden_name;
+use crate::publish::recipients::{is_hidden_name, lesser};
 use crate::publish::shared_copies::SharedCopies;
 use crate::retained::Retained;
 use crate::sessions::table::Sessions;
@@ -28,6 +29,14 @@ use std::slice;
 
 /// A planned copy of a message: the key of the client that it is for, and the message.
 pub(crate) type PlannedCopy = (ClientKey, PreparedMessage);
+
+// Whether a copy of this quality of service may go to a client. One of QoS 0 may while the client
+// is connected (4.3.1).
+fn may_go_to(connections: &Connections, key: ClientKey, qos: Qos) -> bool
+    ensures { result ≡ (has_identifier qos || is_some (up_on key connections.now.connections)) }
+{
+    qos != Qos::Q0 || connections.up_on(key).is_some()
+}
 
 // Returns a copy for each client that was found, by the greatest quality of service of its matching
 // subscriptions.
@@ -44,8 +53,8 @@ fn copies_found(
 {
     let mut copies = Vec::new(alloc);
     for (key, qos) in found {
-        let is_up = connections.up_on(key).is_some();
-        if let Some(copy) = shared.copy_by(message, qos, is_up)? {
+        let may_go = may_go_to(connections, key, lesser(message.qos, qos));
+        if let Some(copy) = shared.copy_by(message, qos, may_go)? {
             copies.push((key, copy))?;
         }
     }
@@ -156,29 +165,6 @@ pub(crate) fn make_room(
     Ok(true)
 }
 
-// Has the session of a client publish messages one after another.
-fn publish_for(sessions: &mut Sessions, key: ClientKey, messages: Vec<Message>)
-    requires { IsReadyAt key messages.items 0 sessions.old.list }
-    ensures list { sessions.new.list ≡ placed_all (for_key key messages.items) sessions.old.list }
-    ensures room { sessions.new.room ≡ sessions.old.room }
-{
-    for message in messages {
-        sessions.publish(key, PreparedMessage::new(message));
-    }
-}
-
-// Has each subscriber's session publish its copy.
-fn publish_all(sessions: &mut Sessions, copies: Vec<PlannedCopy>)
-    requires apart { AreApart copies.items }
-    requires ready { AreReady 0 sessions.old.list copies.items }
-    ensures list { sessions.new.list ≡ placed_all copies.items sessions.old.list }
-    ensures room { sessions.new.room ≡ sessions.old.room }
-{
-    for (key, message) in copies {
-        sessions.publish(key, message);
-    }
-}
-
 /// Places messages for a client, whose session must have room for them (3.3.5).
 pub(crate) fn place_for(sessions: &mut Sessions, key: ClientKey, messages: Vec<Message>)
     requires { IsReadyAt key messages.items 0 sessions.old.list }
@@ -188,7 +174,9 @@ pub(crate) fn place_for(sessions: &mut Sessions, key: ClientKey, messages: Vec<M
     ensures list { sessions.new.list ≡ placed_all (for_key key messages.items) sessions.old.list }
     ensures room { sessions.new.room ≡ sessions.old.room }
 {
-    publish_for(sessions, key, messages);
+    for message in messages {
+        sessions.publish(key, PreparedMessage::new(message));
+    }
 }
 
 /// Places each copy for its client, whose session must have room for it (3.3.5).
@@ -201,7 +189,9 @@ pub(crate) fn place_all(sessions: &mut Sessions, copies: Vec<PlannedCopy>)
     ensures list { sessions.new.list ≡ placed_all copies.items sessions.old.list }
     ensures room { sessions.new.room ≡ sessions.old.room }
 {
-    publish_all(sessions, copies);
+    for (key, message) in copies {
+        sessions.publish(key, message);
+    }
 }
 
 /// Appends the acts that report copies as placed. They share the messages' bytes.

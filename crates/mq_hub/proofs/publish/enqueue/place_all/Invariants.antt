@@ -1,6 +1,6 @@
 use Rattle.std.proofs.Common.{◌≡◌}
 use Rattle.mq_hub.specs.Inside.Placement.{AreApart, AreReady, placed_all}
-use Rattle.mq_hub.proofs.publish.enqueue.publish_all.Given as goal
+use Rattle.mq_hub.proofs.publish.enqueue.place_all.Given as goal
 
 abbrev pub invariant-loop-key : goal.invariant-loop-key
 invariant-loop-key l = record {
