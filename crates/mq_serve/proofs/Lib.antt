@@ -2,3 +2,6 @@ pub mod Fronts
 pub mod Sends
 pub mod AuditedRuns
 pub mod Reports
+pub mod Pendings
+pub mod Jobs
+pub mod Callings

@@ -3,3 +3,5 @@ pub mod Printed
 pub mod Wakers
 pub mod ReadOrder
 pub mod Accepting
+pub mod Pending
+pub mod Calls

@@ -1,6 +1,6 @@
 -- The order in which workers pass on their bytes. Connections are numbered in the order in which
 -- they were accepted.
-use Rattle.std.specs.Prelude.{ℕ, Bool, true, false, ◌||◌, nat_le, List, Option, Some, None, slice_index_or, slice_set}
+use Rattle.std.specs.Prelude.{ℕ, Bool, true, false, not, ◌&&◌, ◌||◌, nat_eq, nat_le, is_some, List, Option, Some, None, slice_index_or, slice_set}
 use Rattle.mq_serve.specs.declared.read_order.ReadSeat.{ReadSeat}
 
 -- the worker serves no connection that was accepted before this one
@@ -16,6 +16,18 @@ is_read number seat = is_later number seat.connection || nat_le number seat.empt
 -- A read left nothing. It began after the last read that left nothing.
 abbrev pub after_empty_read : ℕ → ReadSeat → ReadSeat
 after_empty_read last seat = record seat { emptied = seat.seen; seen = last }
+
+-- The worker waits for its turn, or waits no more.
+abbrev pub with_waiting : Bool → ReadSeat → ReadSeat
+with_waiting is_waiting seat = record seat { is_waiting = is_waiting }
+
+-- the worker with this number waits for its turn
+abbrev pub waits : ℕ → ReadSeat → Bool
+waits number seat = seat.is_waiting
+
+-- the worker with this number serves a connection, and is another one than `worker`
+abbrev pub reads_beside : ℕ → ℕ → ReadSeat → Bool
+reads_beside worker number seat = is_some seat.connection && not (nat_eq number worker)
 
 -- a worker that serves nothing; one that begins to serve a connection
 abbrev pub idle : ReadSeat

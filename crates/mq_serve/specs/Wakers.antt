@@ -1,5 +1,5 @@
 -- The workers that must be woken after a step of another worker.
-use Rattle.std.specs.Prelude.{ℕ, Bool, true, false, ◌||◌, if◌then◌else◌, nat_eq, List, [], ◌∷◌, Option, Some, None}
+use Rattle.std.specs.Prelude.{ℕ, Bool, false, not, ◌&&◌, ◌||◌, if◌then◌else◌, nat_eq, List, [], ◌∷◌, Option, Some, None}
 use Rattle.mq_route.specs.declared.act.Act.{Act}
 use Rattle.mq_route.specs.declared.act.Act.TheVariants.{Up, Took, Placed, Missed, Subscribed, Unsubscribed, Will, WillDropped, Closed, Removed}
 use Rattle.mq_serve.specs.declared.wakers.Seat.{Seat}
@@ -34,3 +34,15 @@ after_act number (Removed client) seat = seat
 abbrev pub after_acts : ℕ → List Act → Seat → Seat
 after_acts number [] seat = seat
 after_acts number (act ∷ acts) seat = after_acts number acts (after_act number act seat)
+
+-- a worker that serves no client
+abbrev pub vacant : Seat
+vacant = record { client = None; is_called = false }
+
+-- the worker is not called
+abbrev pub uncalled : Seat → Seat
+uncalled seat = record seat { is_called = false }
+
+-- After a step of one worker, the worker with this number must be woken.
+abbrev pub must_wake : ℕ → ℕ → Seat → Bool
+must_wake stepped number seat = seat.is_called && not (nat_eq number stepped)

@@ -1,7 +1,8 @@
 //! Acceptors of connections.
 
-ghost use Rattle.std.specs.Prelude.{◌≡◌, ◌⊎◌, true};
-ghost use Rattle.mq_serve.specs.Accepting.{IsTaken};
+ghost use Rattle.std.specs.Prelude.{◌≡◌, ◌⊎◌, false, pos, true};
+ghost use Rattle.std.specs.IoError.{os_error_kind};
+ghost use Rattle.mq_serve.specs.Accepting.{IsTaken, after_failure, is_dead};
 
 use crate::polled_stream::{PolledStream, ReadTurn, WorkerPoll};
 use crate::wakers::ReadTurns;
@@ -9,7 +10,9 @@ use mq_book::ConnectionSource;
 use std::alloc::Global;
 use std::io;
 use std::io::ErrorKind;
+use std::marker::Model;
 use std::net::{TcpListener, TcpStream};
+use std::ops::ControlFlow;
 use std::sync::{Mutex, Wait};
 use std::time::Clock;
 
@@ -21,6 +24,14 @@ pub struct Acceptor {
     is_broken: bool,
     // The error number of the permanent failure.
     code: i32,
+}
+
+impl Model for Acceptor {
+    ghost use Rattle.mq_serve.specs.Accepting.{AcceptorState};
+
+    ghost Value = { AcceptorState };
+
+    ghost view = { λ a. record { left = a.left; is_broken = a.is_broken; code = a.code } };
 }
 
 /// The result of accepting.
@@ -47,7 +58,7 @@ pub enum AfterFailure {
 impl Acceptor {
     /// An acceptor that will accept `connections` connections of this listener.
     pub fn new(listener: TcpListener, connections: u32) -> Acceptor
-        ensures { result.left ≡ connections }
+        ensures { result ≡ record { left = connections; is_broken = false; code = pos 0 } }
     {
         Acceptor {
             listener,
@@ -65,7 +76,9 @@ impl Acceptor {
     }
 
     /// Why the listener can't accept connections any more, if it failed permanently.
-    pub fn failure(&self) -> ErrorKind {
+    pub fn failure(&self) -> ErrorKind
+        ensures { result ≡ os_error_kind self.now.code }
+    {
         io::Error::from_raw_os_error(self.code).kind()
     }
 
@@ -99,12 +112,16 @@ impl Acceptor {
 
 // Whether this error number means that the listener is closed, is not a socket, or does not listen
 // (EBADF, EINVAL, ENOTSOCK, EOPNOTSUPP).
-fn is_dead(code: i32) -> bool {
+fn is_dead(code: i32) -> bool
+    ensures { result ≡ is_dead code }
+{
     matches!(code, 9 | 22 | 88 | 95)
 }
 
 // What follows a failure of this kind and with this error number.
-fn after_failure(kind: ErrorKind, code: Option<i32>) -> AfterFailure {
+fn after_failure(kind: ErrorKind, code: Option<i32>) -> AfterFailure
+    ensures { result ≡ after_failure kind code }
+{
     match (kind, code) {
         (ErrorKind::Interrupted | ErrorKind::ConnectionAborted, _) => AfterFailure::AtOnce,
         (_, Some(code)) if is_dead(code) => AfterFailure::Never,
@@ -167,6 +184,28 @@ impl<'a, R: Wait + Clock> WorkerAcceptor<'a, R> {
         drop(acceptor);
         (accepted, turn)
     }
+
+    // Leaves the last connection and accepts the next one. `Continue` if that must be tried again,
+    // and `Break(None)` if no more are to be accepted.
+    fn try_next(&self) -> ControlFlow<Option<PolledStream<'a, R>>> {
+        if let Some(turns) = self.turns {
+            turns.leave(self.rt);
+        }
+        let (accepted, turn) = self.accept();
+        match accepted {
+            Accepted::Connection(stream) => {
+                match PolledStream::new(self.rt, self.alloc, self.poll, stream, turn) {
+                    Ok(polled) => ControlFlow::Break(Some(polled)),
+                    Err(_) => ControlFlow::Continue(()),
+                }
+            }
+            Accepted::Later => {
+                self.poll.lock(self.rt).pause();
+                ControlFlow::Continue(())
+            }
+            Accepted::Never => ControlFlow::Break(None),
+        }
+    }
 }
 
 impl<'a, R: Wait + Clock> ConnectionSource for WorkerAcceptor<'a, R> {
@@ -174,19 +213,8 @@ impl<'a, R: Wait + Clock> ConnectionSource for WorkerAcceptor<'a, R> {
 
     fn next(&mut self) -> Option<PolledStream<'a, R>> {
         for _ in 0..u64::MAX {
-            if let Some(turns) = self.turns {
-                turns.leave(self.rt);
-            }
-            let (accepted, turn) = self.accept();
-            match accepted {
-                Accepted::Connection(stream) => {
-                    let polled = PolledStream::new(self.rt, self.alloc, self.poll, stream, turn);
-                    if polled.is_ok() {
-                        return polled.ok();
-                    }
-                }
-                Accepted::Later => self.poll.lock(self.rt).pause(),
-                Accepted::Never => return None,
+            if let ControlFlow::Break(next) = self.try_next() {
+                return next;
             }
         }
         None

@@ -1,12 +1,13 @@
 //! Output that a connection takes bit by bit.
 
-ghost use Rattle.std.specs.Prelude.{◌≤◌, length, take, IfOk, MatchOption, OnErr};
+ghost use Rattle.std.specs.Prelude.{◌≡◌, ◌≤◌, length, take, IfOk, MatchOption, OnErr};
 ghost use Rattle.std.specs.Io.KnownBytes.{Appends, Keeps};
 ghost use Rattle.mq_packet.specs.Writing.{AppendsFront};
+ghost use Rattle.mq_serve.specs.Pending.{after_failed_write};
 
 use mq_stream::Broken;
 use std::io;
-use std::io::Write;
+use std::io::{ErrorKind, Write};
 
 /// The next action of a writer after a failed write.
 #[derive(Clone, Copy, Debug, PartialEq, Eq)]
@@ -33,6 +34,18 @@ pub trait Patience {
 pub trait Duplex {
     /// Returns whether bytes of the peer are there.
     fn has_input(&self) -> bool;
+}
+
+/// The next action after a write that failed with this kind of error. `is_late` is whether the
+/// connection took no bytes for too long. Returns `None` if the writer must wait for room.
+pub(crate) fn after_failed_write(kind: ErrorKind, is_late: bool) -> Option<WriteNext>
+    ensures { result ≡ after_failed_write kind is_late }
+{
+    match kind {
+        ErrorKind::Interrupted if !is_late => Some(WriteNext::Retry),
+        ErrorKind::WouldBlock if !is_late => None,
+        _ => Some(WriteNext::Fail),
+    }
 }
 
 // Writes some bytes. Returns their number, or `None` to pause.

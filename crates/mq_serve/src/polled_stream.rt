@@ -1,20 +1,21 @@
 //! Connections that a worker polls, for bytes, for room to write and for calls of other workers.
 
-ghost use Rattle.std.specs.Prelude.{◌≡◌, ◌≤◌, length, None, IfOk, OnErr};
+ghost use Rattle.std.specs.Prelude.{◌≡◌, ◌<◌, ◌++◌, ℕ, [], None, IfOk, OnErr, OnOk, drop, false, true};
 ghost use Rattle.mq_stream.specs.Stream.{Arrives, IsUnread, outcome_of};
 
-use crate::output::{Duplex, Patience, WriteNext, write_front};
+use crate::output::{Duplex, Patience, WriteNext, after_failed_write};
+use crate::pending_output::PendingOutput;
 use crate::wakers::ReadTurns;
-use bytes::BytesMut;
 use mio::net::TcpStream;
 use mio::{Events, Interest, Poll, Token, Waker};
 use mq_stream::{Broken, ReadOutcome, Stream};
-use std::alloc::{AllocError, Global};
+use std::alloc::Global;
+use std::io;
 use std::io::{ErrorKind, Read};
+use std::marker::Model;
 use std::net::Net;
 use std::sync::{Mutex, Wait};
 use std::time::{Clock, Duration, Instant};
-use std::{io, mem};
 
 /// The maximum time that a read waits for its first byte, in milliseconds.
 const READ_LIMIT: u64 = 100;
@@ -25,11 +26,7 @@ const TURN_LIMIT: u64 = 100;
 /// The time after which a write to a peer that takes no bytes fails, in milliseconds.
 const WRITE_LIMIT: u64 = 10_000;
 
-/// The number of bytes of later output that may join the output that is not written yet. With more,
-/// bytes of the peer are read at most once in `SLOW_READ` until the connection took the output.
-const MOST_LATER: usize = 1_048_576;
-
-/// The minimum time between two reads while there is much later output, in milliseconds. A client
+/// The minimum time between two reads while there is much pending output, in milliseconds. A client
 /// that sends packets in time is heard in time (3.1.2.10).
 const SLOW_READ: u64 = 100;
 
@@ -47,9 +44,20 @@ pub struct WorkerPoll {
     is_called: bool,
 }
 
+impl Model for WorkerPoll {
+    ghost use Rattle.std.specs.Prelude.{Bool};
+
+    // whether the next wait for bytes returns at once
+    ghost Value = { Bool };
+
+    ghost view = { λ p. p.is_called };
+}
+
 impl WorkerPoll {
     /// A poll, and the waker with which other workers call the one that polls.
-    pub fn new<N: Net>(net: &N, alloc: Global) -> io::Result<(WorkerPoll, Waker)> {
+    pub fn new<N: Net>(net: &N, alloc: Global) -> io::Result<(WorkerPoll, Waker)>
+        ensures { IfOk result (λ made. made.0 ≡ false) }
+    {
         let poll = Poll::new(net)?;
         let waker = Waker::new(poll.registry(), CALLS)?;
         let worker_poll = WorkerPoll {
@@ -61,7 +69,9 @@ impl WorkerPoll {
     }
 
     // Waits for bytes or a call, unless a call may have come before.
-    fn wait_for_bytes(&mut self) {
+    fn wait_for_bytes(&mut self)
+        ensures { self.new ≡ false }
+    {
         if !self.is_called {
             self.wait();
         }
@@ -70,13 +80,17 @@ impl WorkerPoll {
 
     // Waits for something else than bytes, up to the limit of a read. A call ends this wait, and is
     // kept for the next wait for bytes.
-    pub(crate) fn pause(&mut self) {
+    pub(crate) fn pause(&mut self)
+        ensures { self.new ≡ true }
+    {
         self.wait();
         self.is_called = true;
     }
 
     // Waits for an event up to the limit of a read. Returns at once if the system can't wait.
-    fn wait(&mut self) {
+    fn wait(&mut self)
+        ensures { self.new ≡ self.old }
+    {
         let limit = Duration::from_millis(READ_LIMIT);
         let _ = self.poll.poll(&mut self.events, Some(limit));
     }
@@ -85,14 +99,20 @@ impl WorkerPoll {
 /// The turn of a connection to pass on its first bytes.
 #[derive(Clone, Copy)]
 pub struct ReadTurn<'a> {
-    turns: ReadTurns<'a>,
-    connection: u64,
-    has_begun: bool,
+    /// The access of the worker that serves the connection.
+    pub turns: ReadTurns<'a>,
+    /// The number of the connection.
+    pub connection: u64,
+    /// Whether its first bytes were passed on, or wait for that.
+    pub has_begun: bool,
 }
 
 impl<'a> ReadTurn<'a> {
     /// The turn of a connection that was accepted now.
-    pub fn new<R: Wait>(turns: ReadTurns<'a>, rt: &R) -> ReadTurn<'a> {
+    pub fn new<R: Wait>(turns: ReadTurns<'a>, rt: &R) -> ReadTurn<'a>
+        ensures number { 0 < result.connection }
+        ensures begins { result.has_begun ≡ false }
+    {
         ReadTurn {
             turns,
             connection: turns.accept(rt),
@@ -108,15 +128,21 @@ pub struct PolledStream<'a, R: Wait + Clock> {
     poll: &'a Mutex<WorkerPoll>,
     stream: TcpStream,
     turn: Option<ReadTurn<'a>>,
-    alloc: Global,
-    // The output that the connection did not take yet. If it is empty, so is the later output.
-    backlog: BytesMut,
-    // The output behind the backlog.
-    later: BytesMut,
+    pending: PendingOutput,
     // When the connection last took bytes.
     progress: Instant,
-    // When bytes of the peer were last read while there was a backlog.
+    // When bytes of the peer were last read while output was pending.
     heard: Instant,
+}
+
+impl<'a, R: Wait + Clock> Model for PolledStream<'a, R> {
+    ghost use Rattle.std.specs.Prelude.{ℕ, List};
+    ghost use Rattle.mq_serve.specs.Pending.{bytes_of};
+
+    // the output that the connection did not take yet
+    ghost Value = { List ℕ };
+
+    ghost view = { λ s. bytes_of s.pending };
 }
 
 impl<'a, R: Wait + Clock> PolledStream<'a, R> {
@@ -127,24 +153,27 @@ impl<'a, R: Wait + Clock> PolledStream<'a, R> {
         poll: &'a Mutex<WorkerPoll>,
         stream: std::net::TcpStream,
         turn: Option<ReadTurn<'a>>,
-    ) -> io::Result<PolledStream<'a, R>> {
+    ) -> io::Result<PolledStream<'a, R>>
+        ensures { IfOk result (λ polled. polled ≡ []) }
+    {
         stream.set_nodelay(true)?;
         stream.set_nonblocking(true)?;
         let mut stream = TcpStream::from_std(stream);
         let interests = Interest::READABLE | Interest::WRITABLE;
-        poll.lock(rt)
+        let mut locked = poll.lock(rt);
+        let worker_poll = &mut *locked;
+        worker_poll
             .poll
             .registry()
             .register(&mut stream, BYTES, interests)?;
+        drop(locked);
         let now = Instant::now(rt)?;
         Ok(PolledStream {
             rt,
             poll,
             stream,
             turn,
-            alloc,
-            backlog: BytesMut::new(alloc),
-            later: BytesMut::new(alloc),
+            pending: PendingOutput::new(alloc),
             progress: now,
             heard: now,
         })
@@ -189,59 +218,55 @@ impl<'a, R: Wait + Clock> PolledStream<'a, R> {
         }
     }
 
-    // Writes a front of bytes that no output precedes. Returns its length.
-    fn write_now(&mut self, bytes: &[u8]) -> Result<usize, Broken>
-        ensures { IfOk result (λ n. n ≤ length bytes.now) }
-    {
-        let mut patience = RoomWait {
+    // Waits for room to write.
+    fn patience(&self, reads: bool) -> RoomWait<'a, R> {
+        RoomWait {
             rt: self.rt,
             poll: self.poll,
-            reads: true,
+            reads,
             heard: self.heard,
             progress: self.progress,
-        };
-        let written = write_front(&mut self.stream, bytes, &mut patience);
+        }
+    }
+
+    // Writes pending output until bytes of the peer are there.
+    #[tactic(auto, using(crate::proofs::Pendings::wrote_part))]
+    fn write_pending(&mut self) -> Result<(), Broken>
+        ensures { (count : ℕ) × (self.new ≡ drop count self.old) }
+    {
+        let mut patience = self.patience(!self.pending.is_long());
+        let written = self.pending.write(&mut self.stream, &mut patience);
         self.progress = patience.progress;
         written
     }
 
-    // Keeps output for later.
-    fn keep(&mut self, bytes: &[u8]) -> Result<(), AllocError> {
-        if self.backlog.is_empty() {
-            self.backlog = BytesMut::copy_from_slice(self.alloc, bytes)?;
-            return Ok(());
+    // Sends bytes behind the pending output, until there is a reason to pause. The rest is pending.
+    #[tactic(auto, using(crate::proofs::Pendings::sent_rest))]
+    fn send(&mut self, bytes: &[u8]) -> Result<(), Broken>
+        ensures ok { OnOk result ((count : ℕ) × (self.new ≡ self.old ++ drop count bytes.now)) }
+        ensures err { OnErr result (self.new ≡ self.old) }
+    {
+        if self.pending.is_empty()
+            && let Ok(now) = Instant::now(self.rt)
+        {
+            self.progress = now;
         }
-        self.later.extend_from_slice(bytes)
-    }
-
-    // Writes the backlog, or the front of it until bytes of the peer are there.
-    fn write_backlog(&mut self) -> Result<(), Broken> {
-        let mut patience = RoomWait {
-            rt: self.rt,
-            poll: self.poll,
-            reads: self.later.len() <= MOST_LATER,
-            heard: self.heard,
-            progress: self.progress,
-        };
-        let written = write_front(&mut self.stream, self.backlog.as_slice(), &mut patience);
+        let mut patience = self.patience(true);
+        let sent = self.pending.send(&mut self.stream, bytes, &mut patience);
         self.progress = patience.progress;
-        self.backlog.advance(written?);
-        if self.backlog.is_empty() {
-            self.backlog = mem::replace(&mut self.later, BytesMut::new(self.alloc));
-        }
-        Ok(())
+        sent
     }
 
-    // Reads while the backlog is written.
+    // Reads while pending output is written.
     fn read_meanwhile(&mut self, buffer: &mut [u8]) -> ReadOutcome
         ensures { Arrives None None buffer.new result }
     {
         for _ in 0..u64::MAX {
-            if let Err(Broken) = self.write_backlog() {
+            if let Err(Broken) = self.write_pending() {
                 return ReadOutcome::Failed;
             }
             let outcome = self.read_now(buffer);
-            if outcome != ReadOutcome::Nothing || self.backlog.is_empty() {
+            if outcome != ReadOutcome::Nothing || self.pending.is_empty() {
                 if let Ok(now) = Instant::now(self.rt) {
                     self.heard = now;
                 }
@@ -317,11 +342,9 @@ impl<R: Wait + Clock> Patience for RoomWait<'_, R> {
 
     fn on_error(&mut self, error: &io::Error, has_input: bool) -> WriteNext {
         let is_late = has_elapsed(self.rt, self.progress, WRITE_LIMIT);
-        match error.kind() {
-            ErrorKind::Interrupted | ErrorKind::WouldBlock if is_late => WriteNext::Fail,
-            ErrorKind::Interrupted => WriteNext::Retry,
-            ErrorKind::WouldBlock => self.after_full(has_input),
-            _ => WriteNext::Fail,
+        match after_failed_write(error.kind(), is_late) {
+            Some(next) => next,
+            None => self.after_full(has_input),
         }
     }
 }
@@ -330,7 +353,7 @@ impl<R: Wait + Clock> Stream for PolledStream<'_, R> {
     /// Reads the bytes that came, or waits for some. A call of another worker ends the wait. While
     /// output is left, it is written first.
     fn read(&mut self, buffer: &mut [u8]) -> ReadOutcome {
-        if !self.backlog.is_empty() {
+        if !self.pending.is_empty() {
             return self.read_meanwhile(buffer);
         }
         match self.read_now(buffer) {
@@ -344,20 +367,6 @@ impl<R: Wait + Clock> Stream for PolledStream<'_, R> {
     /// Writes the bytes as the connection takes them. If bytes of the peer come meanwhile, the rest
     /// is kept, and written by the next reads. Fails if the connection takes none for too long.
     fn write_all(&mut self, bytes: &[u8]) -> Result<(), Broken> {
-        let mut rest = bytes;
-        if self.backlog.is_empty() {
-            if let Ok(now) = Instant::now(self.rt) {
-                self.progress = now;
-            }
-            let count = self.write_now(bytes)?;
-            rest = &bytes[count..];
-        }
-        if rest.is_empty() {
-            return Ok(());
-        }
-        match self.keep(rest) {
-            Ok(()) => Ok(()),
-            Err(_) => Err(Broken),
-        }
+        self.send(bytes)
     }
 }

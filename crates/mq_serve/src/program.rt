@@ -1,9 +1,11 @@
 //! The program `serve`.
 
-ghost use Rattle.std.specs.Prelude.{◌≡◌, ◌<◌, ◌≤◌, IfOk};
+ghost use Rattle.std.specs.Prelude.{◌≡◌, ◌<◌, ◌≤◌, IfOk, MatchResult, OnOk, Some};
+ghost use Rattle.std.specs.Io.KnownBytes.{Appends};
+ghost use Rattle.mq_line.specs.Lines.{Prints};
 ghost use Rattle.mq_route.specs.Hub.{HubState};
-ghost use Rattle.mq_serve.specs.Ends.{IsReported};
-ghost use Rattle.mq_serve.specs.Printed.{AreSessions};
+ghost use Rattle.mq_serve.specs.Ends.{IsReported, end_status};
+ghost use Rattle.mq_serve.specs.Printed.{AreSessions, IsEarly, IsServeRun, ServeEnds, end_line, end_lines};
 
 use crate::acceptor::Acceptor;
 use crate::lines::{write_end, write_served};
@@ -87,6 +89,7 @@ fn serve_all<R>(
 where
     R: Net + Threads + Wait + Clock + Sync,
     requires { (0 < options.workers) × (options.workers ≤ 64) }
+    ensures { IfOk result (λ names. (hub : HubState) × AreSessions hub names.items) }
 {
     let blank = Blank::new(u64::from(options.workers));
     serve_by::<Brand, R>(rt, alloc, blank, listener, options)
@@ -95,11 +98,60 @@ where
 // Writes the reason for an early end, which `end` gets too. Returns the status of the program.
 #[tactic(auto, using(crate::proofs::Reports::early))]
 fn end_early<W: Write>(end: &mut Option<ServeEnd>, output: &mut W, why: ServeEnd) -> io::Result<u8>
-    ensures { IfOk result (λ status. IsReported status end.old end.new) }
+    ensures reported { end.new ≡ Some why }
+    ensures status { IfOk result (λ status. status ≡ end_status why) }
+    ensures printed { OnOk result
+        (Appends (W.contents output.old) (W.contents output.new) (end_line why)) }
+    ensures whole { IfOk result (λ status. IsReported status end.old end.new) }
 {
     *end = Some(why);
     let status = write_end(output, why)?;
     Ok(status)
+}
+
+// Prints the end of a broker: the remaining sessions and the number of connections, or the reason
+// for an early end, which `end` gets too. Returns the status of the program.
+#[tactic(auto, using(crate::proofs::Reports::served_lines, crate::proofs::Reports::early_lines))]
+fn report<W: Write>(
+    served: Result<Vec<Text>, ServeEnd>,
+    connections: u32,
+    end: &mut Option<ServeEnd>,
+    output: &mut W,
+) -> io::Result<u8>
+    ensures { IfOk result (λ status. Prints (W.contents output.old) (W.contents output.new)
+        (λ text. MatchResult served
+        (λ names. (status ≡ 0) × (end.new ≡ end.old) × (text ≡ end_lines names.items connections))
+        (λ why. IsEarly why end.new status text))) }
+{
+    match served {
+        Ok(names) => {
+            write_served(output, names.as_slice(), connections)?;
+            Ok(0)
+        }
+        Err(why) => end_early(end, output, why),
+    }
+}
+
+// Serves the connections of a listener, and prints the end. Returns the status of the program.
+#[tactic(auto, using(crate::proofs::Reports::ended, crate::proofs::Reports::ended_status))]
+fn serve_to_end<R, W>(
+    rt: &R,
+    alloc: Global,
+    listener: TcpListener,
+    options: ServeOptions,
+    end: &mut Option<ServeEnd>,
+    output: &mut W,
+) -> io::Result<u8>
+where
+    R: Net + Threads + Wait + Clock + Sync,
+    W: Write,
+    requires { (0 < options.workers) × (options.workers ≤ 64) }
+    ensures reported { IfOk result (λ status. IsReported status end.old end.new) }
+    ensures printed { IfOk result (λ status. Prints (W.contents output.old) (W.contents output.new)
+        (ServeEnds options.connections end.old end.new status)) }
+{
+    let served = serve_all(rt, alloc, listener, options);
+    report(served, options.connections, end, output)
 }
 
 /// Serves the connections of a listener, with workers in threads.
@@ -108,7 +160,7 @@ fn end_early<W: Write>(end: &mut Option<ServeEnd>, output: &mut W, why: ServeEnd
 /// connections were served, the remaining sessions and the number of connections; or the reason of
 /// an early end, which `end` gets too. Returns the status of the program. `Err` means that the
 /// output failed.
-#[tactic(auto, using(crate::proofs::Reports::all_served))]
+#[tactic(auto, using(crate::proofs::Reports::heard, crate::proofs::Reports::unheard))]
 pub fn serve_on<R, W>(
     rt: &R,
     alloc: Global,
@@ -121,7 +173,9 @@ where
     R: Net + Threads + Wait + Clock + Sync,
     W: Write,
     requires { (0 < options.workers) × (options.workers ≤ 64) }
-    ensures { IfOk result (λ status. IsReported status end.old end.new) }
+    ensures reported { IfOk result (λ status. IsReported status end.old end.new) }
+    ensures printed { IfOk result (λ status. Prints (W.contents output.old) (W.contents output.new)
+        (IsServeRun options.connections end.old end.new status)) }
 {
     let address = match listener.local_addr() {
         Ok(address) => address,
@@ -129,18 +183,13 @@ where
     };
     writeln!(output, "listening {address}")?;
     output.flush()?;
-    match serve_all(rt, alloc, listener, options) {
-        Ok(names) => {
-            write_served(output, names.as_slice(), options.connections)?;
-            Ok(0)
-        }
-        Err(why) => end_early(end, output, why),
-    }
+    serve_to_end(rt, alloc, listener, options, end, output)
 }
 
 /// Listens on this port of 127.0.0.1, and serves its connections as [`serve_on`] does.
 ///
 /// Port 0 means any free port.
+#[tactic(auto, using(crate::proofs::Reports::unheard))]
 pub fn serve<R, W>(
     rt: &R,
     alloc: Global,
@@ -153,7 +202,9 @@ where
     R: Net<Listener = TcpListener, Stream = TcpStream> + Threads + Wait + Clock + Sync,
     W: Write,
     requires { (0 < options.workers) × (options.workers ≤ 64) }
-    ensures { IfOk result (λ status. IsReported status end.old end.new) }
+    ensures reported { IfOk result (λ status. IsReported status end.old end.new) }
+    ensures printed { IfOk result (λ status. Prints (W.contents output.old) (W.contents output.new)
+        (IsServeRun options.connections end.old end.new status)) }
 {
     match TcpListener::bind(rt, (Ipv4Addr::LOCALHOST, port)) {
         Ok(listener) => serve_on(rt, alloc, listener, options, end, output),

@@ -1,9 +1,12 @@
 //! The order in which workers pass on the bytes that they read.
 
-ghost use Rattle.std.specs.Prelude.{◌≡◌, ◌+◌, ◌-◌, ◌^◌, IfOk, min, replicate};
+ghost use Rattle.std.specs.Prelude.{◌≡◌, ◌+◌, ◌-◌, ◌^◌, IfOk, false, min, not, replicate};
+ghost use Rattle.std.specs.Io.KnownBytes.{Appends};
 ghost use Rattle.std.specs.List.{list_all};
-ghost use Rattle.mq_serve.specs.ReadOrder.{after_empty_read, idle, is_later, is_read, seat_of, serving, with_seat};
+ghost use Rattle.mq_serve.specs.Calls.{numbers_from};
+ghost use Rattle.mq_serve.specs.ReadOrder.{after_empty_read, idle, is_later, is_read, reads_beside, seat_of, serving, waits, with_seat, with_waiting};
 
+use crate::caller::Caller;
 use std::alloc::{AllocError, Global};
 use std::marker::Model;
 
@@ -92,13 +95,6 @@ impl ReadOrder {
         Ok(ReadOrder { last: 0, seats })
     }
 
-    /// The readings of the workers, in the order of their numbers.
-    pub fn seats(&self) -> &[ReadSeat]
-        ensures { result.now ≡ self.now.seats }
-    {
-        self.seats.as_slice()
-    }
-
     // The reading of a worker changes, if there is such a worker.
     fn put(&mut self, worker: u16, seat: ReadSeat)
         ensures { self.new ≡ with_seat worker seat self.old }
@@ -138,34 +134,99 @@ impl ReadOrder {
         number
     }
 
-    /// The connection of a worker ended, and everything that was read of it is passed on.
-    pub fn leave(&mut self, worker: u16)
-        ensures { self.new ≡ with_seat worker idle self.old }
+    /// The connection of a worker ended, and everything that was read of it is passed on. Calls the
+    /// workers that wait for their turn.
+    pub fn leave<C: Caller>(&mut self, worker: u16, caller: &mut C)
+        ensures seats { self.new ≡ with_seat worker idle self.old }
+        ensures called { Appends (C.called caller.old) (C.called caller.new)
+            (numbers_from waits 0 self.new.seats) }
     {
         self.put(worker, IDLE);
+        call_waiting(self.seats.as_slice(), caller);
     }
 
-    /// A read of a worker left nothing, and everything that was read before is passed on.
-    pub fn note_empty(&mut self, worker: u16)
-        ensures { self.new ≡ with_seat worker (after_empty_read self.old.last (seat_of worker self.old)) self.old }
+    /// A read of a worker left nothing, and everything that was read before is passed on. Calls the
+    /// workers that wait for their turn.
+    pub fn note_empty<C: Caller>(&mut self, worker: u16, caller: &mut C)
+        ensures seats { self.new ≡ with_seat worker (after_empty_read self.old.last (seat_of worker self.old)) self.old }
+        ensures called { Appends (C.called caller.old) (C.called caller.new)
+            (numbers_from waits 0 self.new.seats) }
     {
         let seat = after_empty_read(self.last, self.seat(worker));
         self.put(worker, seat);
+        call_waiting(self.seats.as_slice(), caller);
     }
 
-    /// Whether the first bytes of this connection may be passed on.
-    pub fn is_turn(&self, number: u64) -> bool
-        ensures { result ≡ list_all (is_read number) self.now.seats }
+    /// Returns whether the first bytes of this connection may be passed on. If not, the worker
+    /// waits for its turn.
+    pub fn take_turn(&mut self, worker: u16, number: u64) -> bool
+        ensures turn { result ≡ list_all (is_read number) self.old.seats }
+        ensures seats { self.new ≡ with_seat worker (with_waiting (not result) (seat_of worker self.old)) self.old }
     {
-        are_read(number, self.seats.as_slice())
+        let is_turn = are_read(number, self.seats.as_slice());
+        self.set_waiting(worker, !is_turn);
+        is_turn
     }
 
-    /// A worker waits for its turn, or waits no more.
-    pub fn set_waiting(&mut self, worker: u16, is_waiting: bool)
-        ensures { self.new ≡ with_seat worker (record (seat_of worker self.old) { is_waiting = is_waiting }) self.old }
+    /// A worker waits no more for its turn.
+    pub fn give_up(&mut self, worker: u16)
+        ensures { self.new ≡ with_seat worker (with_waiting false (seat_of worker self.old)) self.old }
+    {
+        self.set_waiting(worker, false);
+    }
+
+    /// Calls the other workers that serve a connection.
+    pub fn call_readers<C: Caller>(&self, worker: u16, caller: &mut C)
+        ensures { Appends (C.called caller.old) (C.called caller.new)
+            (numbers_from (reads_beside worker) 0 self.now.seats) }
+    {
+        call_readers(self.seats.as_slice(), worker, caller);
+    }
+
+    // A worker waits for its turn, or waits no more.
+    fn set_waiting(&mut self, worker: u16, is_waiting: bool)
+        ensures { self.new ≡ with_seat worker (with_waiting is_waiting (seat_of worker self.old)) self.old }
     {
         let mut seat = self.seat(worker);
         seat.is_waiting = is_waiting;
         self.put(worker, seat);
     }
+}
+
+// Calls the workers that wait for their turn.
+fn call_waiting<C: Caller>(seats: &[ReadSeat], caller: &mut C)
+    ensures { Appends (C.called caller.old) (C.called caller.new)
+        (numbers_from waits 0 seats.now) }
+{
+    for (number, seat) in seats.iter().enumerate() {
+        if waits(seat) {
+            caller.call(number);
+        }
+    }
+}
+
+// Whether the worker waits for its turn.
+fn waits(seat: &ReadSeat) -> bool
+    ensures { result ≡ seat.now.is_waiting }
+{
+    seat.is_waiting
+}
+
+// Calls the workers that serve a connection, except this one.
+fn call_readers<C: Caller>(seats: &[ReadSeat], worker: u16, caller: &mut C)
+    ensures { Appends (C.called caller.old) (C.called caller.new)
+        (numbers_from (reads_beside worker) 0 seats.now) }
+{
+    for (number, seat) in seats.iter().enumerate() {
+        if reads_beside(worker, number, seat) {
+            caller.call(number);
+        }
+    }
+}
+
+// Whether the worker with this number serves a connection, and is another one than `worker`.
+fn reads_beside(worker: u16, number: usize, seat: &ReadSeat) -> bool
+    ensures { result ≡ reads_beside worker number seat.now }
+{
+    seat.connection.is_some() && number != usize::from(worker)
 }

@@ -1,9 +1,12 @@
 //! The server: a shared broker, and the workers that serve its connections.
 
-ghost use Rattle.std.specs.Prelude.{◌≡◌, ◌+◌, ◌<◌, ◌≤◌, All, IfOk, IfSome, OnOk, None, length, map, vec_len};
+ghost use Rattle.std.specs.Prelude.{◌≡◌, ◌⊎◌, ◌+◌, ◌<◌, ◌≤◌, All, Err, IfErr, IfOk, IfSome, OnOk, None, Some, length, map, vec_len};
+ghost use Rattle.std.specs.IoError.{os_error_kind};
 ghost use Rattle.std.specs.List.{sum_by};
 ghost use Rattle.mq_book.specs.Pages.{below};
-ghost use Rattle.mq_serve.specs.Ends.{first_stop, retention_limit, stop_of};
+ghost use Rattle.mq_book.specs.declared.work_end.WorkEnd.{WorkEnd};
+ghost use Rattle.mq_serve.specs.Ends.{end_of_work, first_stop, retention_limit, stop_of};
+ghost use Rattle.mq_serve.specs.declared.serve_end.ServeEnd.TheVariants.{Memory};
 
 use crate::acceptor::{Acceptor, WorkerAcceptor};
 use crate::audited_connections::serve_connections_audited;
@@ -188,6 +191,9 @@ impl<L: Ledger> Server<L> {
         ensures counted { IfOk result (λ c.
             c.book.first + length c.book.entries ≡ sum_by (λ s. s.share.count) results.items) }
         ensures served { OnOk result (first_stop (map (λ s. s.end) results.items) ≡ None) }
+        ensures stopped { (why : WorkEnd) → first_stop (map (λ s. s.end) results.items) ≡ Some why
+            → result ≡ Err (end_of_work why) }
+        ensures receipts { IfOk result (λ c. c.receipts.items ≡ map (λ s. s.receipts) results.items) }
     {
         let Server {
             alloc,
@@ -195,12 +201,7 @@ impl<L: Ledger> Server<L> {
             acceptor,
             ..
         } = self;
-        let acceptor = acceptor.into_inner();
-        let (left, failure) = (acceptor.left(), acceptor.failure());
-        match stop(first_stop(results.as_slice()), left, failure) {
-            Some(why) => Err(why),
-            None => Ok(finish(alloc, shared, results)?),
-        }
+        finish(alloc, shared, acceptor.into_inner(), results)
     }
 }
 
@@ -276,16 +277,31 @@ fn stop(stopped: Option<WorkEnd>, left: u32, failure: ErrorKind) -> Option<Serve
     }
 }
 
+// The book and the receipts, if no worker stopped early and all connections were accepted.
+#[tactic(auto, using(crate::proofs::Reports::none_stopped, crate::proofs::Reports::first_stopped))]
 fn finish<L: Ledger>(
     alloc: Global,
     shared: SharedHub<L>,
+    acceptor: Acceptor,
     results: Vec<WorkerResult<L>>,
-) -> Result<FinishedServer<L>, AllocError>
+) -> Result<FinishedServer<L>, ServeEnd>
     requires all { vec_len results ≡ L.parts }
     requires some { 0 < vec_len results }
-    ensures { IfOk result (λ c.
+    ensures counted { IfOk result (λ c.
         c.book.first + length c.book.entries ≡ sum_by (λ s. s.share.count) results.items) }
+    ensures receipts { IfOk result (λ c. c.receipts.items ≡ map (λ s. s.receipts) results.items) }
+    ensures served { OnOk result (first_stop (map (λ s. s.end) results.items) ≡ None) }
+    ensures accepted { OnOk result (acceptor.left ≡ 0) }
+    ensures stopped { (why : WorkEnd) → first_stop (map (λ s. s.end) results.items) ≡ Some why
+        → result ≡ Err (end_of_work why) }
+    ensures why { IfErr result (λ why. (why ≡ Memory) ⊎ (stop_of (first_stop (map (λ s. s.end) results.items))
+        acceptor.left (os_error_kind acceptor.code) ≡ Some why)) }
 {
+    let (left, failure) = (acceptor.left(), acceptor.failure());
+    drop(acceptor);
+    if let Some(why) = stop(first_stop(results.as_slice()), left, failure) {
+        return Err(why);
+    }
     let (shares, receipts) = shares_and_receipts(alloc, results)?;
     Ok(FinishedServer {
         book: gather(shares, shared),
@@ -297,7 +313,8 @@ fn shares_and_receipts<L: Ledger>(
     alloc: Global,
     results: Vec<WorkerResult<L>>,
 ) -> Result<(Vec<Share<L>>, Vec<Vec<Receipt>>), AllocError>
-    ensures { IfOk result (λ r. r.0.items ≡ map (λ s. s.share) results.items) }
+    ensures shares { IfOk result (λ r. r.0.items ≡ map (λ s. s.share) results.items) }
+    ensures receipts { IfOk result (λ r. r.1.items ≡ map (λ s. s.receipts) results.items) }
 {
     let mut shares = Vec::with_capacity(alloc, results.len())?;
     let mut receipts = Vec::with_capacity(alloc, results.len())?;

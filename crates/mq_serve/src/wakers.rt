@@ -1,14 +1,18 @@
 //! Wakers of workers that are waiting at their connections.
 
-ghost use Rattle.std.specs.Prelude.{◌≡◌};
-ghost use Rattle.mq_serve.specs.Wakers.{after_act, after_acts, call_if, serves};
+ghost use Rattle.std.specs.Prelude.{◌≡◌, ◌<◌, ℕ, IfOk, length, slice_index_or, vec_len};
+ghost use Rattle.std.specs.Io.KnownBytes.{Appends};
+ghost use Rattle.mq_serve.specs.Calls.{numbers_from};
+ghost use Rattle.mq_serve.specs.Wakers.{after_act, after_acts, call_if, must_wake, serves, uncalled, vacant};
 
-use crate::read_order::{ReadOrder, ReadSeat};
+use crate::caller::{Caller, WakerCaller};
+use crate::read_order::ReadOrder;
 use mio::Waker;
 use mq_book::StepObserver;
 use mq_route::{Act, HubReply};
 use mq_topic::ClientKey;
 use std::alloc::{AllocError, Global};
+use std::marker::Model;
 use std::sync::{Mutex, Wait};
 
 // A worker: the client that it serves, and whether it must be woken.
@@ -18,21 +22,37 @@ struct Seat {
     is_called: bool,
 }
 
+const VACANT: Seat = Seat {
+    client: None,
+    is_called: false,
+};
+
 /// The wakers of all workers, and the clients that these serve.
 #[derive(Drop)]
 pub struct Wakers {
-    clients: Mutex<Vec<Option<ClientKey>>>,
+    seats: Mutex<Vec<Seat>>,
     order: Mutex<ReadOrder>,
     wakers: Vec<Waker>,
 }
 
+impl Model for Wakers {
+    ghost use Rattle.std.specs.Prelude.{ℕ, vec_len};
+
+    // the number of workers
+    ghost Value = { ℕ };
+
+    ghost view = { λ w. vec_len w.wakers };
+}
+
 impl Wakers {
     /// The wakers of workers, in the order of their numbers. No worker serves a client yet.
-    pub fn new(alloc: Global, wakers: Vec<Waker>) -> Result<Wakers, AllocError> {
-        let clients = vec![in alloc; None; wakers.len()]?;
+    pub fn new(alloc: Global, wakers: Vec<Waker>) -> Result<Wakers, AllocError>
+        ensures { IfOk result (λ all. all ≡ vec_len wakers) }
+    {
+        let seats = vec![in alloc; VACANT; wakers.len()]?;
         let order = ReadOrder::new(alloc, wakers.len())?;
         Ok(Wakers {
-            clients: Mutex::new(clients),
+            seats: Mutex::new(seats),
             order: Mutex::new(order),
             wakers,
         })
@@ -42,69 +62,60 @@ impl Wakers {
 /// A worker's access to the order in which workers pass on the bytes that they read.
 #[derive(Clone, Copy)]
 pub struct ReadTurns<'a> {
-    wakers: &'a Wakers,
-    worker: u16,
+    /// The wakers of all workers.
+    pub wakers: &'a Wakers,
+    /// The number of the worker.
+    pub worker: u16,
 }
 
 impl<'a> ReadTurns<'a> {
     /// The access of this worker.
-    pub fn new(wakers: &'a Wakers, worker: u16) -> ReadTurns<'a> {
+    pub fn new(wakers: &'a Wakers, worker: u16) -> ReadTurns<'a>
+        ensures { result.worker ≡ worker }
+    {
         ReadTurns { wakers, worker }
     }
 
     /// The worker accepted a connection. Returns its number. Must be called before another worker
     /// accepts a connection.
-    pub fn accept<R: Wait>(&self, rt: &R) -> u64 {
-        self.wakers.order.lock(rt).accept(self.worker)
+    pub fn accept<R: Wait>(&self, rt: &R) -> u64
+        ensures { 0 < result }
+    {
+        let wakers = self.wakers;
+        wakers.order.lock(rt).accept(self.worker)
     }
 
     /// The connection of the worker ended. Wakes the workers that wait for their turn.
     pub fn leave<R: Wait>(&self, rt: &R) {
-        let mut order = self.wakers.order.lock(rt);
-        order.leave(self.worker);
-        wake_waiting(order.seats(), &self.wakers.wakers);
+        let wakers = self.wakers;
+        let mut caller = WakerCaller(wakers.wakers.as_slice());
+        wakers.order.lock(rt).leave(self.worker, &mut caller);
     }
 
     /// A read of the worker left nothing. Wakes the workers that wait for their turn.
     pub fn note_empty<R: Wait>(&self, rt: &R) {
-        let mut order = self.wakers.order.lock(rt);
-        order.note_empty(self.worker);
-        wake_waiting(order.seats(), &self.wakers.wakers);
+        let wakers = self.wakers;
+        let mut caller = WakerCaller(wakers.wakers.as_slice());
+        wakers.order.lock(rt).note_empty(self.worker, &mut caller);
     }
 
     /// Whether the first bytes of this connection may be passed on. If not, the worker waits.
     pub fn is_turn<R: Wait>(&self, rt: &R, number: u64) -> bool {
-        let mut order = self.wakers.order.lock(rt);
-        let is_turn = order.is_turn(number);
-        order.set_waiting(self.worker, !is_turn);
-        is_turn
+        let wakers = self.wakers;
+        wakers.order.lock(rt).take_turn(self.worker, number)
     }
 
     /// Wakes the other workers that serve a connection, so that they read it.
     pub fn wake_readers<R: Wait>(&self, rt: &R) {
-        let order = self.wakers.order.lock(rt);
-        let seats = order.seats().iter().zip(&self.wakers.wakers);
-        for (number, (seat, waker)) in seats.enumerate() {
-            if seat.connection.is_some() && number != usize::from(self.worker) {
-                // A worker that can't be woken reads when its wait times out.
-                let _ = waker.wake();
-            }
-        }
+        let wakers = self.wakers;
+        let mut caller = WakerCaller(wakers.wakers.as_slice());
+        wakers.order.lock(rt).call_readers(self.worker, &mut caller);
     }
 
     /// The worker waits no more for its turn.
     pub fn give_up<R: Wait>(&self, rt: &R) {
-        self.wakers.order.lock(rt).set_waiting(self.worker, false);
-    }
-}
-
-// Wakes the workers that wait for their turn.
-fn wake_waiting(seats: &[ReadSeat], wakers: &[Waker]) {
-    for (seat, waker) in seats.iter().zip(wakers) {
-        if seat.is_waiting {
-            // A worker that can't be woken looks again when its wait times out.
-            let _ = waker.wake();
-        }
+        let wakers = self.wakers;
+        wakers.order.lock(rt).give_up(self.worker);
     }
 }
 
@@ -120,25 +131,61 @@ impl StepObserver for WakeOthers<'_> {
         if acts.is_empty() {
             return;
         }
-        let mut clients = self.0.clients.lock(rt);
-        wake(&mut clients, &self.0.wakers, worker, acts);
+        let wakers = self.0;
+        let mut caller = WakerCaller(wakers.wakers.as_slice());
+        call_others(&mut wakers.seats.lock(rt), acts, worker, &mut caller);
     }
 }
 
-// Wakes the workers that must be woken after a step, except the one that made it.
-fn wake(clients: &mut [Option<ClientKey>], wakers: &[Waker], stepped: u16, acts: &[Act]) {
-    for (number, (client, waker)) in clients.iter_mut().zip(wakers).enumerate() {
-        let before = Seat {
-            client: client.take(),
-            is_called: false,
-        };
-        let seat = after_acts(before, number, acts);
-        *client = seat.client;
-        if seat.is_called && number != usize::from(stepped) {
-            // A worker that can't be woken looks for output when its read times out.
-            let _ = waker.wake();
+// Notes the acts of a step, and calls the other workers that must be woken.
+fn call_others<C: Caller>(seats: &mut [Seat], acts: &[Act], stepped: u16, caller: &mut C)
+    ensures noted { (number : ℕ) → number < length seats.old → slice_index_or seats.new number vacant
+        ≡ after_acts number acts.now (uncalled (slice_index_or seats.old number vacant)) }
+    ensures called { Appends (C.called caller.old) (C.called caller.new)
+        (numbers_from (must_wake stepped) 0 seats.new) }
+{
+    note_acts(seats, acts);
+    call_noted(seats, stepped, caller);
+}
+
+// Each worker serves the client, and is called, as these acts say.
+fn note_acts(seats: &mut [Seat], acts: &[Act])
+    ensures { (number : ℕ) → number < length seats.old → slice_index_or seats.new number vacant
+        ≡ after_acts number acts.now (uncalled (slice_index_or seats.old number vacant)) }
+{
+    for number in 0..seats.len() {
+        let before = uncalled(&seats[number]);
+        seats[number] = after_acts(before, number, acts);
+    }
+}
+
+// The worker is not called.
+fn uncalled(seat: &Seat) -> Seat
+    ensures { result ≡ uncalled seat.now }
+{
+    Seat {
+        client: seat.client,
+        is_called: false,
+    }
+}
+
+// Calls the workers that must be woken, except the one that made the step.
+fn call_noted<C: Caller>(seats: &[Seat], stepped: u16, caller: &mut C)
+    ensures { Appends (C.called caller.old) (C.called caller.new)
+        (numbers_from (must_wake stepped) 0 seats.now) }
+{
+    for (number, seat) in seats.iter().enumerate() {
+        if must_wake(stepped, number, seat) {
+            caller.call(number);
         }
     }
+}
+
+// Whether the worker with this number must be woken after a step of another one.
+fn must_wake(stepped: u16, number: usize, seat: &Seat) -> bool
+    ensures { result ≡ must_wake stepped number seat.now }
+{
+    seat.is_called && number != usize::from(stepped)
 }
 
 // The worker with this number after these acts.

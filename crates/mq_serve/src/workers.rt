@@ -1,6 +1,7 @@
 //! Workers that run concurrently, each in a thread.
 
-ghost use Rattle.std.specs.Prelude.{◌≡◌, IfOk, vec_len};
+ghost use Rattle.std.specs.Prelude.{◌≡◌, ⊤, IfOk, vec_len};
+ghost use Rattle.std.specs.List.{AllZip};
 
 use std::alloc::AllocError;
 use std::sync::Wait;
@@ -16,8 +17,12 @@ pub trait Workers {
     /// The result of a part.
     type Outcome;
 
+    /// The relation of a part to its result.
+    ghost does: { Self → Self.Part → Self.Outcome → Type 0 } = { λ _ _ _. ⊤ };
+
     /// Does one part.
-    fn run_one<R: Wait + Clock>(&self, rt: &R, part: Self::Part) -> Self::Outcome;
+    fn run_one<R: Wait + Clock>(&self, rt: &R, part: Self::Part) -> Self::Outcome
+        ensures { does self.now part result };
 }
 
 /// Runs two jobs concurrently, each as [`run_all`] does.
@@ -38,6 +43,10 @@ where
     K::Outcome: Send + Drop,
     ensures one { IfOk result.0 (λ outcomes. vec_len outcomes ≡ vec_len parts) }
     ensures other { IfOk result.1 (λ outcomes. vec_len outcomes ≡ vec_len others) }
+    ensures one_done { IfOk result.0 (λ outcomes.
+        AllZip (H.does one.now) parts.items outcomes.items) }
+    ensures other_done { IfOk result.1 (λ outcomes.
+        AllZip (K.does other.now) others.items outcomes.items) }
 {
     thread::join(
         rt,
@@ -58,7 +67,8 @@ pub fn run_all<H: Workers + Sync, R: Threads + Wait + Clock + Sync>(
 where
     H::Part: Send + Drop,
     H::Outcome: Send + Drop,
-    ensures { IfOk result (λ outcomes. vec_len outcomes ≡ vec_len parts) }
+    ensures count { IfOk result (λ outcomes. vec_len outcomes ≡ vec_len parts) }
+    ensures done { IfOk result (λ outcomes. AllZip (H.does job.now) parts.items outcomes.items) }
 {
     thread::map_vec(rt, parts, &|part| job.run_one(rt, part))
 }

@@ -1,0 +1,37 @@
+-- Output that a connection did not take yet.
+use Rattle.std.specs.Prelude.{◌≡◌, ◌⊎◌, ℕ, Bool, false, List, [], ◌++◌, take, drop, Option, None, Some}
+use Rattle.std.specs.Io.KnownBytes.{Appends}
+use Rattle.std.specs.declared.io.ErrorKind.{ErrorKind}
+use Rattle.std.specs.declared.io.ErrorKind.TheVariants.{Interrupted, WouldBlock}
+use Rattle.mq_serve.specs.declared.output.WriteNext.{WriteNext}
+use Rattle.mq_serve.specs.declared.output.WriteNext.TheVariants.{Retry, Fail}
+
+-- The bytes that are written next, and those behind them.
+pub record Pending : Type 0 where
+  pub front : List ℕ
+  pub later : List ℕ
+
+-- all pending bytes, in order
+abbrev pub bytes_of : Pending → List ℕ
+bytes_of p = p.front ++ p.later
+
+-- Some bytes from the front were written, and exactly these are not pending any more.
+pub record WritesFront (pending rest : List ℕ) (old new : Option (List ℕ)) : Type 0 where
+  pub count : ℕ
+  pub written : Appends old new (take count pending)
+  pub left : rest ≡ drop count pending
+
+-- Some of these bytes were written from their front, and the rest is pending behind the bytes that
+-- were pending before. If there were any, nothing was written.
+pub record Sends (bytes pending rest : List ℕ) (old new : Option (List ℕ)) : Type 0 where
+  pub count : ℕ
+  pub written : Appends old new (take count bytes)
+  pub left : rest ≡ pending ++ drop count bytes
+  pub waits : (pending ≡ []) ⊎ (count ≡ 0)
+
+-- The next action after a failed write, with whether the connection took no bytes for too long. The
+-- writer waits for room if there is none; any other error ends the connection.
+abbrev pub after_failed_write : ErrorKind → Bool → Option WriteNext
+after_failed_write Interrupted false = Some Retry
+after_failed_write WouldBlock false = None
+after_failed_write kind late = Some Fail
