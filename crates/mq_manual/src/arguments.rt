@@ -1,13 +1,19 @@
 //! The arguments and names of commands.
 
+ghost use Rattle.std.specs.Prelude.{◌≡◌};
+ghost use Rattle.clap.specs.Words.{shape_of};
+ghost use Rattle.mq_manual.specs.Completion.{own_name};
+
 use clap::{Arg, Command};
 use std::alloc::{AllocError, Global};
 
 /// The name of a command without that of its program.
-pub(crate) fn name_of<'a>(command: &Command<'a>) -> &'a str {
+pub(crate) fn name_of<'a>(command: &Command<'a>) -> &'a str
+    ensures { result.now ≡ own_name (shape_of command.now).name }
+{
     let name = command.get_name();
-    match name.rsplit_once(' ') {
-        Some((_, last)) => last,
+    match name.split_once(' ') {
+        Some((_, own)) => own,
         None => name,
     }
 }

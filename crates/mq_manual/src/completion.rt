@@ -1,5 +1,11 @@
 //! The completion script for bash.
 
+ghost use Rattle.std.specs.Prelude.{◌≡◌, ◌++◌, ℕ, List, IfOk, OnOk, codes, string_bytes};
+ghost use Rattle.std.specs.List.{list_any};
+ghost use Rattle.clap.specs.Simple.{is_positional};
+ghost use Rattle.clap.specs.Words.{rule_of, shape_of};
+ghost use Rattle.mq_manual.specs.Completion.{AreCases, IsCase, IsScript, case_text, first_line, help_line, offer, option_names, options, script_text, spaced_name, spaced_names};
+
 use crate::arguments::{name_of, value_of};
 use clap::{Arg, Command};
 use std::alloc::{AllocError, Global};
@@ -29,7 +35,10 @@ complete -o default -F _mqtt mqtt
 ";
 
 // Appends the names of an option, each after this separator.
-fn push_names(text: &mut String, option: &Arg<'_>, separator: &str) -> Result<(), AllocError> {
+fn push_names(text: &mut String, option: &Arg<'_>, separator: &str) -> Result<(), AllocError>
+    ensures { OnOk result (string_bytes text.new
+        ≡ string_bytes text.old ++ option_names separator.now (rule_of option.now)) }
+{
     if let Some(short) = option.get_short() {
         write!(text, "{separator}-{short}")?;
     }
@@ -40,7 +49,9 @@ fn push_names(text: &mut String, option: &Arg<'_>, separator: &str) -> Result<()
 }
 
 // The names of the options of a command, each after a space.
-fn options_of(alloc: Global, command: &Command<'_>) -> Result<String, AllocError> {
+fn options_of(alloc: Global, command: &Command<'_>) -> Result<String, AllocError>
+    ensures { IfOk result (λ names. string_bytes names ≡ options (shape_of command.now)) }
+{
     let mut names = String::new(alloc);
     for arg in command.get_arguments() {
         push_names(&mut names, arg, " ")?;
@@ -60,7 +71,9 @@ fn valued_options_of(alloc: Global, command: &Command<'_>) -> Result<String, All
 }
 
 // Whether a command has an argument without a name.
-fn has_positional(command: &Command<'_>) -> bool {
+fn has_positional(command: &Command<'_>) -> bool
+    ensures { result ≡ list_any is_positional (shape_of command.now).rules }
+{
     for arg in command.get_arguments() {
         if arg.is_positional() {
             return true;
@@ -69,26 +82,112 @@ fn has_positional(command: &Command<'_>) -> bool {
     false
 }
 
-// Appends the case of a command: the value of an option is completed as the name of a file, and so
-// is an argument without a name.
-fn push_case(script: &mut String, alloc: Global, command: &Command<'_>) -> Result<(), AllocError> {
+// Appends the line that completes the value of an option as the name of a file.
+fn push_values(script: &mut String, alloc: Global, command: &Command<'_>) -> Result<(), AllocError>
+    ensures { OnOk result ((values : List ℕ)
+        × (string_bytes script.new ≡ string_bytes script.old ++ values)) }
+{
+    let valued = valued_options_of(alloc, command)?;
+    match valued.as_str().strip_prefix('|') {
+        Some(names) => writeln!(script, "        case $before in {names}) return ;; esac"),
+        None => Ok(()),
+    }
+}
+
+// Appends the words that are offered. An argument without a name is completed as that of a file.
+fn push_offer(script: &mut String, has_positional: bool, words: &str) -> Result<(), AllocError>
+    ensures { OnOk result (string_bytes script.new
+        ≡ string_bytes script.old ++ offer has_positional words.now) }
+{
+    if has_positional {
+        writeln!(script, "        case $word in -*) words='{words}' ;; esac")
+    } else {
+        writeln!(script, "        words='{words}'")
+    }
+}
+
+// Appends the case of a command.
+fn push_case(script: &mut String, alloc: Global, command: &Command<'_>) -> Result<(), AllocError>
+    ensures { OnOk result ((values : List ℕ) × (string_bytes script.new
+        ≡ string_bytes script.old ++ case_text (shape_of command.now) values)) }
+{
     let name = name_of(command);
     writeln!(script, "    *:{name})")?;
-    let valued = valued_options_of(alloc, command)?;
-    if let Some(names) = valued.as_str().strip_prefix('|') {
-        writeln!(script, "        case $before in {names}) return ;; esac")?;
-    }
+    push_values(script, alloc, command)?;
     let options = options_of(alloc, command)?;
-    let options = options.as_str().trim_start();
-    if has_positional(command) {
-        writeln!(
-            script,
-            "        case $word in -*) words='{options}' ;; esac"
-        )?;
-    } else {
-        writeln!(script, "        words='{options}'")?;
+    push_offer(
+        script,
+        has_positional(command),
+        options.as_str().trim_start(),
+    )?;
+    script.push_str("        ;;\n")?;
+    Ok(())
+}
+
+// Appends the name of a command after a space to a text, and its case to another.
+fn push_command(
+    names: &mut String,
+    cases: &mut String,
+    alloc: Global,
+    command: &mut Command<'_>,
+) -> Result<(), AllocError>
+    ensures names { OnOk result (string_bytes names.new
+        ≡ string_bytes names.old ++ spaced_name command.old) }
+    ensures cases { OnOk result ((case : List ℕ) × IsCase command.old case
+        × (string_bytes cases.new ≡ string_bytes cases.old ++ case)) }
+{
+    command.build()?;
+    write!(names, " {}", name_of(command))?;
+    push_case(cases, alloc, command)?;
+    Ok(())
+}
+
+// Appends the names of commands, each after a space, to a text, and their cases to another.
+fn push_commands(
+    names: &mut String,
+    cases: &mut String,
+    alloc: Global,
+    commands: &mut [Command<'_>],
+) -> Result<(), AllocError>
+    ensures names { OnOk result (string_bytes names.new
+        ≡ string_bytes names.old ++ spaced_names commands.old) }
+    ensures cases { OnOk result ((text : List ℕ) × AreCases commands.old text
+        × (string_bytes cases.new ≡ string_bytes cases.old ++ text)) }
+{
+    for command in commands {
+        push_command(names, cases, alloc, command)?;
     }
-    script.push_str("        ;;\n")
+    Ok(())
+}
+
+// Appends the words that are offered first.
+fn push_first_line(script: &mut String, names: &str, options: &str) -> Result<(), AllocError>
+    ensures { OnOk result (string_bytes script.new
+        ≡ string_bytes script.old ++ first_line names.now options.now) }
+{
+    writeln!(script, "    1:*) words='help{names}{options}' ;;")
+}
+
+// Appends the words that are offered after `help`.
+fn push_help_line(script: &mut String, names: &str) -> Result<(), AllocError>
+    ensures { OnOk result (string_bytes script.new
+        ≡ string_bytes script.old ++ help_line names.now) }
+{
+    writeln!(script, "    2:help) words='{names}' ;;")
+}
+
+// The script of these names of commands, names of the program's options, and cases.
+fn script_of(alloc: Global, names: &str, options: &str, cases: &str) -> Result<String, AllocError>
+    ensures { IfOk result (λ script.
+        string_bytes script ≡ script_text names.now options.now cases.now) }
+{
+    let mut script = String::from_str(alloc, START)?;
+    push_first_line(&mut script, names, options)?;
+    push_help_line(&mut script, names.trim_start())?;
+    script.push_str(SHELLS)?;
+    script.push_str(cases)?;
+    script.push_str(END)?;
+    Ok(script)
 }
 
 /// A script for bash that completes the commands of the program `mqtt` and their options.
@@ -96,25 +195,15 @@ pub fn completion_script(
     alloc: Global,
     program: &mut Command<'_>,
     commands: &mut [Command<'_>],
-) -> Result<String, AllocError> {
+) -> Result<String, AllocError>
+    ensures { IfOk result (λ script.
+        IsScript program.old commands.old (string_bytes script)) }
+{
     let mut names = String::new(alloc);
     let mut cases = String::new(alloc);
-    for command in commands {
-        command.build()?;
-        write!(names, " {}", name_of(command))?;
-        push_case(&mut cases, alloc, command)?;
-    }
+    push_commands(&mut names, &mut cases, alloc, commands)?;
     program.build()?;
     let options = options_of(alloc, program)?;
-    let mut script = String::from_str(alloc, START)?;
-    writeln!(script, "    1:*) words='help{names}{options}' ;;")?;
-    writeln!(
-        script,
-        "    2:help) words='{}' ;;",
-        names.as_str().trim_start()
-    )?;
-    script.push_str(SHELLS)?;
-    script.push_str(cases.as_str())?;
-    script.push_str(END)?;
+    let script = script_of(alloc, names.as_str(), options.as_str(), cases.as_str())?;
     Ok(script)
 }
