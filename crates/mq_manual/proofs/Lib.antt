@@ -1,2 +1,3 @@
 mod Cases
 mod Options
+mod Pages

@@ -16,7 +16,8 @@ is_mapped : {X Y : Type 0} (f : X → Y) (o : Option X) → is_some (option_map 
 is_mapped f (Some x) = refl
 is_mapped f None = refl
 
-same_test : (a : Arg) → (not (is_some a.long) && not (is_some a.short)) ≡ is_unnamed a
+-- the test of an argument, and that of its rule
+pub same_test : (a : Arg) → (not (is_some a.long) && not (is_some a.short)) ≡ is_unnamed a
 same_test a = ap (λ (b : Bool). not b && not (is_some a.short)) (sym (is_mapped (λ s. s.now) a.long))
 
 -- an argument without a name is found

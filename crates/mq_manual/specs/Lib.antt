@@ -1,2 +1,3 @@
 pub mod Completion
+pub mod Manual
 pub mod Roff
