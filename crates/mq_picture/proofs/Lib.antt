@@ -2,3 +2,4 @@ mod Escaping
 mod Lines
 mod Lanes
 mod Charts
+mod Recording

@@ -2,6 +2,7 @@
 use Rattle.std.specs.Prelude.{◌≡◌, ℕ, ◌+◌, Bool, true, false, List, [], ◌∷◌, ◌++◌, length, codes, decimal}
 use Rattle.mq_world.specs.declared.side.Side.{Side}
 use Rattle.mq_world.specs.declared.side.Side.TheVariants.{Client, Server}
+use Rattle.mq_schedule.specs.declared.schedule.Schedule.{Schedule}
 use Rattle.mq_picture.specs.declared.entry.Entry.{Entry}
 use Rattle.mq_picture.specs.declared.entry.Note.{Note}
 use Rattle.mq_picture.specs.declared.entry.Note.TheVariants as notes
@@ -10,6 +11,7 @@ use Rattle.mq_picture.specs.declared.rows.Fate.{Fate}
 use Rattle.mq_picture.specs.declared.rows.Fate.TheVariants as fates
 use Rattle.mq_picture.specs.declared.rows.Row.{Row}
 use Rattle.mq_picture.specs.declared.rows.Row.TheVariants as drawn
+use Rattle.mq_picture.specs.Records.{IsRecord}
 use Rattle.mq_picture.specs.Rows.{Draws, reaches}
 use Rattle.mq_picture.specs.Texts.{arrow_text, note_text}
 
@@ -106,9 +108,10 @@ pub record IsImage (rows : List Row) (text : List ℕ) : Type 0 where
   pub is_head : IsHead style (length rows) head
   pub text_is : text ≡ head ++ (body_lines rows ++ codes "</svg>\n")
 
--- The image of the diagram of some record.
-pub record IsPicture (text : List ℕ) : Type 0 where
+-- The image of the diagram of a record of this schedule.
+pub record IsPicture (schedule : Schedule) (text : List ℕ) : Type 0 where
   pub history : List Entry
+  pub recorded : IsRecord schedule history
   pub rows : List Row
   pub draws : Draws history rows
   pub image : IsImage rows text

@@ -55,7 +55,7 @@ pub fn write_picture<W: Write>(
     output: &mut W,
 ) -> Result<(), PictureFault>
     ensures printed { OnOk result
-        (Prints (W.contents output.old) (W.contents output.new) IsPicture) }
+        (Prints (W.contents output.old) (W.contents output.new) (IsPicture schedule.now)) }
     ensures memory { IfErr result (λ fault. OnMemory fault (output.new ≡ output.old)) }
 {
     let entries = record_of(alloc, schedule)?;

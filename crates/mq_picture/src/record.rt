@@ -1,5 +1,17 @@
 //! The record of a replay.
 
+ghost use Rattle.std.specs.Prelude.{◌≡◌, ◌++◌, ◌∷◌, [], IfOk, OnOk, length};
+ghost use Rattle.std.specs.List.{flat_map};
+ghost use Rattle.std.specs.Int.NonZero.{non_zero_u16_get};
+ghost use Rattle.mq_world.specs.declared.answer.Answer.{Answer};
+ghost use Rattle.mq_world.specs.declared.side.Side.TheVariants.{Client};
+ghost use Rattle.mq_world.specs.World.{IsNew};
+ghost use Rattle.mq_schedule.specs.Schedule.{number_of};
+ghost use Rattle.mq_replay.specs.Replay.{StepDoes};
+ghost use Rattle.mq_picture.specs.declared.entry.Entry.TheVariants.{Arrived, Cleared, Noted};
+ghost use Rattle.mq_picture.specs.Inside.Recording.{Records};
+ghost use Rattle.mq_picture.specs.Records.{IsRecord, anew_entries, answer_entries, closed_entries, delivery_entries, dropped_entries, happening_entries, left_entries, opening_entries, published_entries, settling_entries, ticked_entries, unsent};
+
 use crate::entry::{Entry, Note};
 use crate::summary::summary_of;
 use mq_decode::{DecodeError, Decoder, Limits};
@@ -30,12 +42,9 @@ impl Wire {
     }
 
     // Records the packets of further bytes.
-    fn read(
-        &mut self,
-        alloc: Global,
-        bytes: &[u8],
-        entries: &mut Entries,
-    ) -> Result<(), AllocError> {
+    fn read(&mut self, alloc: Global, bytes: &[u8], entries: &mut Entries) -> Result<(), AllocError>
+        ensures { OnOk result (unsent entries.new.items ≡ unsent entries.old.items) }
+    {
         let mut packets = Vec::new(alloc);
         if let Err(DecodeError::Memory) = self.decoder.feed(bytes, &mut packets) {
             return Err(AllocError);
@@ -47,12 +56,9 @@ impl Wire {
     }
 
     // Records the packets that were sent, if these are all bytes in flight.
-    fn look(
-        &mut self,
-        alloc: Global,
-        bytes: &[u8],
-        entries: &mut Entries,
-    ) -> Result<(), AllocError> {
+    fn look(&mut self, alloc: Global, bytes: &[u8], entries: &mut Entries) -> Result<(), AllocError>
+        ensures { OnOk result (unsent entries.new.items ≡ unsent entries.old.items) }
+    {
         if let Some(new) = bytes.get(self.in_flight..) {
             self.read(alloc, new, entries)?;
         }
@@ -66,26 +72,27 @@ impl Wire {
         alloc: Global,
         delivery: &Delivery,
         entries: &mut Entries,
-    ) -> Result<(), AllocError> {
+    ) -> Result<(), AllocError>
+        ensures { OnOk result (unsent entries.new.items ≡ unsent entries.old.items
+            ++ Arrived delivery.now.side (length delivery.now.bytes) delivery.now.lost ∷ []) }
+    {
         let bytes = delivery.bytes.as_slice();
         if let Some(new) = bytes.get(self.in_flight..) {
             self.read(alloc, new, entries)?;
         }
         self.in_flight = self.in_flight.saturating_sub(bytes.len());
         entries.push(Entry::Arrived {
-            to: self.to,
+            to: delivery.side,
             count: bytes.len(),
             lost: delivery.lost,
         })?;
         Ok(())
     }
 
-    // Records that the bytes in flight are lost.
-    fn clear(&mut self, entries: &mut Entries) -> Result<(), AllocError> {
+    // The bytes in flight are lost.
+    fn clear(&mut self) {
         self.decoder.reset();
         self.in_flight = 0;
-        entries.push(Entry::Cleared(self.to))?;
-        Ok(())
     }
 }
 
@@ -99,20 +106,29 @@ struct Recorder {
 }
 
 impl Recorder {
-    fn note(&mut self, side: Side, note: Note) -> Result<(), AllocError> {
+    fn note(&mut self, side: Side, note: Note) -> Result<(), AllocError>
+        ensures { OnOk result (Records self.old self.new (Noted side note ∷ [])) }
+    {
         self.entries.push(Entry::Noted(side, note))?;
         Ok(())
     }
 
-    fn clear(&mut self, to: Side) -> Result<(), AllocError> {
+    // Records that the bytes in flight to a side are lost.
+    fn clear(&mut self, to: Side) -> Result<(), AllocError>
+        ensures { OnOk result (Records self.old self.new (Cleared to ∷ [])) }
+    {
         match to {
-            Side::Client => self.to_client.clear(&mut self.entries),
-            Side::Server => self.to_server.clear(&mut self.entries),
+            Side::Client => self.to_client.clear(),
+            Side::Server => self.to_server.clear(),
         }
+        self.entries.push(Entry::Cleared(to))?;
+        Ok(())
     }
 
     // Records the packets that were sent since the last look.
-    fn look(&mut self, world: &World) -> Result<(), AllocError> {
+    fn look(&mut self, world: &World) -> Result<(), AllocError>
+        ensures { OnOk result (Records self.old self.new []) }
+    {
         let entries = &mut self.entries;
         self.to_client
             .look(self.alloc, world.wire(Side::Client), entries)?;
@@ -124,14 +140,18 @@ impl Recorder {
         &mut self,
         side: Side,
         outcome: Result<Option<PacketId>, PublishRefusal>,
-    ) -> Result<(), AllocError> {
+    ) -> Result<(), AllocError>
+        ensures { OnOk result (Records self.old self.new (published_entries side outcome)) }
+    {
         match outcome {
             Ok(id) => self.note(side, Note::Accepted(id)),
             Err(why) => self.note(side, Note::Refused(why)),
         }
     }
 
-    fn happened(&mut self, side: Side, happening: &Happening) -> Result<(), AllocError> {
+    fn happened(&mut self, side: Side, happening: &Happening) -> Result<(), AllocError>
+        ensures { OnOk result (Records self.old self.new (happening_entries side happening.now)) }
+    {
         match happening {
             Happening::Up { session_present } => self.note(side, Note::Up(*session_present)),
             Happening::Handed(message) => self.note(side, Note::Delivered(message.clone()?)),
@@ -143,8 +163,21 @@ impl Recorder {
         }
     }
 
+    // Records the events of some bytes, in order.
+    fn all_happened(&mut self, side: Side, happenings: &[Happening]) -> Result<(), AllocError>
+        ensures { OnOk result (Records self.old self.new
+            (flat_map (happening_entries side) happenings.now)) }
+    {
+        for happening in happenings {
+            self.happened(side, happening)?;
+        }
+        Ok(())
+    }
+
     // Records the reason if a side closed its connection. The bytes in flight to it are lost.
-    fn closed(&mut self, side: Side, closed: Option<CloseReason>) -> Result<(), AllocError> {
+    fn closed(&mut self, side: Side, closed: Option<CloseReason>) -> Result<(), AllocError>
+        ensures { OnOk result (Records self.old self.new (closed_entries side closed)) }
+    {
         match closed {
             Some(why) => {
                 self.clear(side)?;
@@ -154,21 +187,41 @@ impl Recorder {
         }
     }
 
-    fn delivered(&mut self, delivery: &Delivery) -> Result<(), AllocError> {
-        let side = delivery.side;
+    // Records the arrival of bytes.
+    fn arrived(&mut self, delivery: &Delivery) -> Result<(), AllocError>
+        ensures { OnOk result (Records self.old self.new
+            (Arrived delivery.now.side (length delivery.now.bytes) delivery.now.lost ∷ [])) }
+    {
         let entries = &mut self.entries;
-        match side {
-            Side::Client => self.to_client.arrive(self.alloc, delivery, entries)?,
-            Side::Server => self.to_server.arrive(self.alloc, delivery, entries)?,
+        match delivery.side {
+            Side::Client => self.to_client.arrive(self.alloc, delivery, entries),
+            Side::Server => self.to_server.arrive(self.alloc, delivery, entries),
         }
-        for happening in delivery.progress.happenings.as_slice() {
-            self.happened(side, happening)?;
-        }
+    }
+
+    fn delivered(&mut self, delivery: &Delivery) -> Result<(), AllocError>
+        ensures { OnOk result (Records self.old self.new (delivery_entries delivery.now)) }
+    {
+        let side = delivery.side;
+        self.arrived(delivery)?;
+        self.all_happened(side, delivery.progress.happenings.as_slice())?;
         self.closed(side, delivery.progress.closed)
     }
 
+    fn all_delivered(&mut self, deliveries: &[Delivery]) -> Result<(), AllocError>
+        ensures { OnOk result (Records self.old self.new
+            (flat_map delivery_entries deliveries.now)) }
+    {
+        for delivery in deliveries {
+            self.delivered(delivery)?;
+        }
+        Ok(())
+    }
+
     // Records that a side lost the bytes in flight to it, and its connection if it was open.
-    fn dropped(&mut self, side: Side, was_open: bool) -> Result<(), AllocError> {
+    fn dropped(&mut self, side: Side, was_open: bool) -> Result<(), AllocError>
+        ensures { OnOk result (Records self.old self.new (dropped_entries side was_open)) }
+    {
         self.clear(side)?;
         if was_open {
             return self.note(side, Note::Dropped);
@@ -176,7 +229,9 @@ impl Recorder {
         Ok(())
     }
 
-    fn opened(&mut self, opening: Opening) -> Result<(), AllocError> {
+    fn opened(&mut self, opening: Opening) -> Result<(), AllocError>
+        ensures { OnOk result (Records self.old self.new (opening_entries opening)) }
+    {
         self.dropped(Side::Client, opening.client_dropped)?;
         self.dropped(Side::Server, opening.server_dropped)?;
         if opening.refused {
@@ -189,7 +244,10 @@ impl Recorder {
         &mut self,
         was_open: bool,
         outcome: Result<(), PublishRefusal>,
-    ) -> Result<(), AllocError> {
+    ) -> Result<(), AllocError>
+        ensures { OnOk result (Records self.old self.new
+            (dropped_entries Client was_open ++ anew_entries outcome)) }
+    {
         self.dropped(Side::Client, was_open)?;
         match outcome {
             Ok(()) => self.note(Side::Client, Note::Restarted),
@@ -201,30 +259,35 @@ impl Recorder {
         &mut self,
         side: Side,
         outcome: Result<Option<CloseReason>, PublishRefusal>,
-    ) -> Result<(), AllocError> {
+    ) -> Result<(), AllocError>
+        ensures { OnOk result (Records self.old self.new (ticked_entries side outcome)) }
+    {
         match outcome {
             Ok(closed) => self.closed(side, closed),
             Err(why) => self.note(side, Note::Refused(why)),
         }
     }
 
-    fn left(&mut self, outcome: Result<(), PublishRefusal>) -> Result<(), AllocError> {
+    fn left(&mut self, outcome: Result<(), PublishRefusal>) -> Result<(), AllocError>
+        ensures { OnOk result (Records self.old self.new (left_entries outcome)) }
+    {
         match outcome {
             Ok(()) => self.closed(Side::Client, Some(CloseReason::Left)),
             Err(why) => self.note(Side::Client, Note::Refused(why)),
         }
     }
 
-    fn settled(&mut self, settling: &Settling) -> Result<(), AllocError> {
+    fn settled(&mut self, settling: &Settling) -> Result<(), AllocError>
+        ensures { OnOk result (Records self.old self.new (settling_entries settling.now)) }
+    {
         self.opened(settling.opening)?;
-        for delivery in settling.deliveries.as_slice() {
-            self.delivered(delivery)?;
-        }
-        Ok(())
+        self.all_delivered(settling.deliveries.as_slice())
     }
 
     // Records the result of a step.
-    fn answered(&mut self, answer: &Answer) -> Result<(), AllocError> {
+    fn answered(&mut self, answer: &Answer) -> Result<(), AllocError>
+        ensures { OnOk result (Records self.old self.new (answer_entries answer.now)) }
+    {
         match answer {
             Answer::Published(side, outcome) => self.published(*side, *outcome),
             Answer::Delivered(delivery) => self.delivered(delivery),
@@ -239,7 +302,12 @@ impl Recorder {
 }
 
 // Processes a step and returns its result.
-fn make(world: &mut World, step: &Step) -> Result<Answer, AllocError> {
+fn make(world: &mut World, step: &Step) -> Result<Answer, AllocError>
+    ensures does { IfOk result (λ answer. StepDoes world.old.limit world.old.capacity step.now
+        answer world.old.wired world.new.wired) }
+    ensures limit { world.new.limit ≡ world.old.limit }
+    ensures capacity { world.new.capacity ≡ world.old.capacity }
+{
     match step {
         Step::Event(event) => world.step(event),
         Step::Settle => world.settle(),
@@ -247,14 +315,25 @@ fn make(world: &mut World, step: &Step) -> Result<Answer, AllocError> {
 }
 
 // Records a step.
-fn advance(recorder: &mut Recorder, world: &mut World, step: &Step) -> Result<(), AllocError> {
+fn advance(recorder: &mut Recorder, world: &mut World, step: &Step) -> Result<(), AllocError>
+    ensures does { OnOk result ((answer : Answer) × StepDoes world.old.limit world.old.capacity
+        step.now answer world.old.wired world.new.wired
+        × Records recorder.old recorder.new (answer_entries answer)) }
+    ensures limit { world.new.limit ≡ world.old.limit }
+    ensures capacity { world.new.capacity ≡ world.old.capacity }
+{
     let answer = make(world, step)?;
     recorder.answered(&answer)?;
     recorder.look(world)
 }
 
 // A new world for a schedule.
-fn new_world(alloc: Global, schedule: &Schedule) -> Result<World, AllocError> {
+fn new_world(alloc: Global, schedule: &Schedule) -> Result<World, AllocError>
+    ensures new { IfOk result (λ world. IsNew schedule.now.limits
+        (non_zero_u16_get schedule.now.capacity) (number_of schedule.now.window) world.wired) }
+    ensures limit { IfOk result (λ world. world.limit ≡ schedule.now.limits) }
+    ensures capacity { IfOk result (λ world. world.capacity ≡ non_zero_u16_get schedule.now.capacity) }
+{
     let capacity = schedule.capacity.get();
     match schedule.window {
         Some(window) => World::with_window(alloc, schedule.limits, capacity, window.get()),
@@ -263,7 +342,9 @@ fn new_world(alloc: Global, schedule: &Schedule) -> Result<World, AllocError> {
 }
 
 /// Runs a schedule in a new world and records what happens to its packets and at its sides.
-pub fn record_of(alloc: Global, schedule: &Schedule) -> Result<Vec<Entry>, AllocError> {
+pub fn record_of(alloc: Global, schedule: &Schedule) -> Result<Vec<Entry>, AllocError>
+    ensures { IfOk result (λ history. IsRecord schedule.now history.items) }
+{
     let mut world = new_world(alloc, schedule)?;
     let mut recorder = Recorder {
         alloc,

@@ -58,7 +58,7 @@ fn schedule_of(alloc: Global, bytes: &[u8]) -> Result<Option<Schedule>, Failure>
 
 // The image of a schedule.
 fn image_of(alloc: Global, schedule: &Schedule) -> Result<Vec<u8>, Failure>
-    ensures { IfOk result (λ image. IsPicture image.items) }
+    ensures { IfOk result (λ image. IsPicture schedule.now image.items) }
 {
     let mut image = Vec::new(alloc);
     match write_picture(alloc, schedule, &mut image) {
