@@ -26,10 +26,10 @@ pub enum Flushed {
 #[derive(Drop)]
 pub struct Connection<S: Socket> {
     socket: S,
-    unread: Bytes,
-    kept: Bytes,
     is_broken: bool,
     is_finished: bool,
+    unread: Bytes,
+    kept: Bytes,
 }
 
 impl<S: Socket> Model for Connection<S> {

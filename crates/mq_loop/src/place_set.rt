@@ -4,15 +4,16 @@ ghost use Rattle.std.specs.Prelude.{◌≡◌, ◌<◌, ◌∷◌, [], ◌++◌,
 ghost use Rattle.mq_loop.specs.Places.{count_in, is_in};
 
 use std::alloc::{AllocError, Global};
+use std::collections::VecDeque;
 use std::marker::Model;
 
-/// A set of places. It can be emptied in any order without a search.
+/// A set of places. They leave it in the order in which they came, without a search.
 #[derive(Drop)]
 pub(crate) struct PlaceSet {
     // For each place, whether it is in the set.
     flags: Vec<bool>,
-    // Names each place of the set, unless an allocation failed.
-    listed: Vec<u32>,
+    // Names each place of the set, the first one first, unless an allocation failed.
+    listed: VecDeque<u32>,
     has_unlisted: bool,
 }
 
@@ -35,7 +36,7 @@ impl PlaceSet {
     {
         PlaceSet {
             flags: Vec::new(alloc),
-            listed: Vec::new(alloc),
+            listed: VecDeque::new(alloc),
             has_unlisted: false,
         }
     }
@@ -78,10 +79,7 @@ impl PlaceSet {
     pub(crate) fn may_have_some(&self) -> bool
         ensures { result ≡ false → (place : ℕ) → is_in place self.now ≡ false }
     {
-        match self.listed.as_slice() {
-            [] => self.has_unlisted,
-            _ => true,
-        }
+        self.has_unlisted || !self.listed.is_empty()
     }
 
     /// Puts a place into the set.
@@ -93,18 +91,18 @@ impl PlaceSet {
             return;
         }
         self.flags[at] = true;
-        if self.listed.push(place).is_err() {
+        if self.listed.push_back(place).is_err() {
             self.has_unlisted = true;
         }
     }
 
-    /// Takes a place out of the set, if it has one.
+    /// Takes the place out of the set that came first, if the set has one.
     pub(crate) fn pop(&mut self) -> Option<u32>
         ensures some { IfSome result (λ place. self.new ≡ slice_set self.old place false) }
         ensures fewer { OnSome result (count_in self.new < count_in self.old) }
         ensures none { IfNone result (((place : ℕ) → is_in place self.old ≡ false) × (self.new ≡ self.old)) }
     {
-        while let Some(place) = self.listed.pop() {
+        while let Some(place) = self.listed.pop_front() {
             let at = place as usize;
             if at < self.flags.len() && self.flags[at] {
                 self.flags[at] = false;

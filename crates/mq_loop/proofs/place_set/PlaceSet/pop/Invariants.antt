@@ -1,4 +1,4 @@
-use Rattle.std.proofs.Common.{◌≡◌, false, true, ◌<◌, ℕ, vec_len}
+use Rattle.std.proofs.Common.{◌≡◌, false, true, ◌<◌, ℕ, deque_len}
 use Rattle.mq_loop.specs.Places.{is_in, AreListed}
 use Rattle.mq_loop.proofs.place_set.PlaceSet.pop.Given as goal
 
@@ -10,7 +10,7 @@ invariant-loop-place l = record {
 }
 
 abbrev pub decreases-loop-place : goal.decreases-loop-place
-decreases-loop-place l = vec_len l.self-inside.listed
+decreases-loop-place l = deque_len l.self-inside.listed
 
 abbrev pub invariant-loop-at : goal.invariant-loop-at
 invariant-loop-at l = record {
