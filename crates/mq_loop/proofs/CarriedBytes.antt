@@ -3,7 +3,7 @@ use Rattle.std.proofs.Common.{◌≡◌, ◌<◌, ◌≤◌, ◌⊎◌, inl, inr
 use Rattle.std.proofs.lemmas.List.{take_all, take-append-drop}
 use Rattle.std.proofs.lemmas.Bool.Decides.{nat_tests}
 use Rattle.bytes.proofs.Ranges.{drop-take_less}
-use Rattle.std.specs.Prelude.{slice_index_or}
+use Rattle.std.specs.Prelude.{slice_index_or, Result, Ok, Err, IfOk, OnErr}
 use Rattle.std.specs.Io.KnownBytes.{append_known}
 use Rattle.mq_route.specs.declared.conn.Conn.{Conn}
 use Rattle.mq_route.specs.declared.event.HubEvent.{HubEvent}
@@ -116,9 +116,10 @@ place_served base h lines s = record {
   carries = λ p. subst (λ (l : Option Line). CarriesAt (account_of (name_at p) s.made) l) (sym (none_more lines p)) (s.carries p);
 }
 
-pub tick_served : (base h g : HubState) (lines : List (Option Line)) (now : ℕ) (reply : HubReply) → AreCarried base h lines → HubStep h (Tick now) reply g
-    → AreCarried base g lines
-tick_served base h g lines now reply s step = served_step base h g lines lines (Tick now) reply s step (λ p a c. c)
+pub tick_served : {E : Type 0} (base h g : HubState) (lines : List (Option Line)) (now : ℕ) (made : Result HubReply E) → AreCarried base h lines
+    → IfOk made (λ reply. HubStep h (Tick now) reply g) → OnErr made (g ≡ h) → AreCarried base g lines
+tick_served base h g lines now (Ok reply) s step same = served_step base h g lines lines (Tick now) reply s step (λ p a c. c)
+tick_served base h g lines now (Err why) s step same = subst (λ (hub : HubState). AreCarried base hub lines) (sym same) s
 
 pub open_served : (base h g : HubState) (lines : List (Option Line)) (q : ℕ) (line : Line) (reply : HubReply) → AreCarried base h lines
     → HubStep h (Opened (name_at q)) reply g → q < length lines → IfSome line.came (λ bytes. bytes ≡ []) → IfSome line.went (λ bytes. bytes ≡ []) → line.unread ≡ [] → line.kept ≡ []

@@ -20,6 +20,7 @@ use Rattle.mq_route.specs.Step.{HubStep}
 use Rattle.mq_loop.specs.Accounts.{IsServed, Line, ServedState, name_at, served_state}
 use Rattle.mq_loop.specs.Calls.{Call}
 use Rattle.mq_loop.specs.Places.{count_in, is_in}
+use Rattle.mq_loop.specs.declared.broker.SnapshotNote.{SnapshotNote}
 use Rattle.mq_loop.specs.declared.connection.Flushed.TheVariants.{Blocked}
 use Rattle.mq_loop.specs.Rounds.{AllIn, AreBounded, AreEnded, AreNotedAt, AtOutputs, IsEmpty, IsFlushed, IsNoted, IsReached, IsSame, IsSettled, IsWatched, IsWritten, IsWrittenAt, MayCollect, OthersStay, Output, OutputStays}
 use Rattle.mq_loop.specs.Rounds.{WatchedState, connections_in, ends_left, exists_at, is_copy_for, output_at, waiting_at, watched_state}
@@ -199,8 +200,9 @@ begun_reached hub may = record { begun = hub; may_begin = may; before = []; foll
 pub new_reached : BegunLaws → (config : HubConfig) → IsReached (new_hub config)
 new_reached laws config = begun_reached (new_hub config) (laws.new config)
 
-pub new_watched : (most : ℕ) (h : HubState) (committed : Bool) (calls : Option (List Call)) (f : ℕ → Option ℕ) → IsReached h → IsWatched most (served_state h h [] committed calls) f [] []
-new_watched most h committed calls f reached = record {
+pub new_watched : (most : ℕ) (h : HubState) (committed : Bool) (calls : Option (List Call)) (notes : List SnapshotNote) (f : ℕ → Option ℕ) → IsReached h
+    → IsWatched most (served_state h h [] committed calls notes) f [] []
+new_watched most h committed calls notes f reached = record {
   reached = reached;
   marked_places = omega arith;
   over_places = omega arith;

@@ -7,6 +7,7 @@ use Rattle.mq_route.specs.declared.reply.HubReply.{HubReply}
 use Rattle.mq_route.specs.Hub.{HubState}
 use Rattle.mq_route.specs.Routed.{same_conn}
 use Rattle.mq_route.specs.Runs.{Episode, Follows}
+use Rattle.mq_loop.specs.declared.broker.SnapshotNote.{SnapshotNote}
 use Rattle.mq_loop.specs.Calls.{Call}
 
 -- The account of a connection in steps: whether it was opened and has not ended; and since it was
@@ -76,18 +77,23 @@ abbrev pub line_at : ℕ → List (Option Line) → Option Line
 line_at place lines = slice_index_or lines place None
 
 -- A broker and the connections that it serves, for contracts: the broker at the beginning, the
--- broker now, the connection at each place, whether all steps of the broker are committed, and the
--- calls on the broker, if they are known.
+-- broker now, the connection at each place, whether all steps of the broker are committed, the
+-- calls on the broker, if they are known, and its notes about snapshots that no log has yet.
 pub record ServedState : Type 0 where
   pub base : HubState
   pub hub : HubState
   pub lines : List (Option Line)
   pub committed : Bool
   pub calls : Option (List Call)
+  pub notes : List SnapshotNote
 
-abbrev pub served_state : HubState → HubState → List (Option Line) → Bool → Option (List Call) → ServedState
-served_state base hub lines committed calls =
-    record { base = base; hub = hub; lines = lines; committed = committed; calls = calls }
+abbrev pub served_state : HubState → HubState → List (Option Line) → Bool → Option (List Call) → List SnapshotNote → ServedState
+served_state base hub lines committed calls notes =
+    record { base = base; hub = hub; lines = lines; committed = committed; calls = calls; notes = notes }
+
+-- the same without notes
+abbrev pub without_notes : ServedState → ServedState
+without_notes served = record served { notes = [] }
 
 -- All steps form one chain of one broker. In these steps each connection carries its bytes, and
 -- those connections are open that exist.

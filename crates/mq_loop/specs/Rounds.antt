@@ -10,13 +10,14 @@ use Rattle.mq_route.specs.Hub.{HubState, is_for, stage_of, waiting_on}
 use Rattle.mq_route.specs.Routed.{seen}
 use Rattle.mq_route.specs.Runs.{Episode, Follows}
 use Rattle.mq_route.specs.Step.{HubStep}
+use Rattle.mq_loop.specs.declared.broker.SnapshotNote.{SnapshotNote}
 use Rattle.mq_loop.specs.declared.connection.Flushed.{Flushed}
 use Rattle.mq_loop.specs.declared.connection.Flushed.TheVariants.{All, Blocked, Failed}
 use Rattle.mq_loop.specs.declared.served.Given.{Given}
 use Rattle.mq_loop.specs.declared.served.Given.TheVariants.{Written, Full, Finished}
 use Rattle.mq_loop.specs.declared.served.Heard.{Heard}
 use Rattle.mq_loop.specs.declared.served.Heard.TheVariants.{Step, Nothing, Over}
-use Rattle.mq_loop.specs.Accounts.{Line, ServedState, line_at, name_at, served_state}
+use Rattle.mq_loop.specs.Accounts.{Line, ServedState, line_at, name_at, served_state, without_notes}
 use Rattle.mq_loop.specs.Calls.{Ages, Call, age_at}
 use Rattle.mq_loop.specs.Places.{count_in, is_in}
 
@@ -259,28 +260,34 @@ AreBounded watched =
 -- ---- loops
 
 -- A loop, for contracts: its broker and connections, with notes; whether a commit failed, after
--- which the loop does nothing any more; and the ages of the connections.
-pub record LoopState : Type 0 where
+-- which the loop does nothing any more; the ages of the connections; and its observer.
+pub record LoopState (O : Type 0) : Type 0 where
   pub watched : WatchedState
   pub stopped : Bool
   pub ages : Ages
+  pub observer : O
 
 -- a loop with this limit that has made no round yet
-abbrev pub new_loop : HubState → Bool → Option (List Call) → ℕ → LoopState
-new_loop hub committed calls most_owed = record {
-  watched = watched_state (served_state hub hub [] committed calls) most_owed [] [] false;
+abbrev pub new_loop : {O : Type 0} → HubState → Bool → Option (List Call) → List SnapshotNote → ℕ → O → LoopState O
+new_loop hub committed calls notes most_owed observer = record {
+  watched = watched_state (served_state hub hub [] committed calls notes) most_owed [] [] false;
   stopped = false;
   ages = record { opened = 0; at_places = [] };
+  observer = observer;
 }
 
 -- the ages of all connections are as before
-abbrev pub AgesStay : LoopState → LoopState → Type 0
+abbrev pub AgesStay : {O : Type 0} → LoopState O → LoopState O → Type 0
 AgesStay old new =
     (new.ages.opened ≡ old.ages.opened) × ((place : ℕ) → age_at place new.ages ≡ age_at place old.ages)
 
 -- A connection was opened at a place: it is the newest, and the others are as they were.
-pub record IsOpened (place : ℕ) (old new : LoopState) : Type 0 where
+pub record IsOpened {O : Type 0} (place : ℕ) (old new : LoopState O) : Type 0 where
   pub exists : exists_at place new.watched.served.lines ≡ true
   pub opened : new.ages.opened ≡ old.ages.opened + 1
   pub newest : age_at place new.ages ≡ new.ages.opened
   pub others : (other : ℕ) → ¬ other ≡ place → age_at other new.ages ≡ age_at other old.ages
+
+-- the same loop without notes
+abbrev pub loop_without_notes : {O : Type 0} → LoopState O → LoopState O
+loop_without_notes old = record old { watched = record old.watched { served = without_notes old.watched.served } }

@@ -4,11 +4,11 @@ ghost use Rattle.std.specs.Prelude.{◌≡◌, ◌<◌, ◌-◌, ◌^◌, ℕ, [
 ghost use Rattle.mq_route.specs.Hub.{new_hub};
 ghost use Rattle.mq_loop.specs.Accounts.{IsServed};
 ghost use Rattle.mq_loop.specs.Calls.{IsRound, Quietly, age_at};
-ghost use Rattle.mq_loop.specs.Rounds.{AgesStay, AreBounded, IsEmpty, IsOpened, IsReached, IsSettled, connections_in, new_loop, pending_at};
+ghost use Rattle.mq_loop.specs.Rounds.{AgesStay, AreBounded, IsEmpty, IsOpened, IsReached, IsSettled, connections_in, loop_without_notes, new_loop, pending_at};
 
 mod input;
 
-use crate::broker::{Broker, CommitFailure};
+use crate::broker::{Broker, CommitFailure, SnapshotBroker, SnapshotNote};
 use crate::observer::Observer;
 use crate::reading::Reading;
 use crate::report::Report;
@@ -77,7 +77,7 @@ impl<B: Broker + Drop, S: Socket + Drop, O: Observer + Drop> Model for EventLoop
     ghost use Rattle.std.specs.Prelude.{is_some};
     ghost use Rattle.mq_loop.specs.Rounds.{LoopState};
 
-    ghost Value = { LoopState };
+    ghost Value = { LoopState O };
 
     ghost coded = { Prim.hlevel (codes, set.code {R = nat_cmp} coded_ℕ) };
 
@@ -85,6 +85,7 @@ impl<B: Broker + Drop, S: Socket + Drop, O: Observer + Drop> Model for EventLoop
       watched = e.watched;
       stopped = is_some e.failure;
       ages = record { opened = e.opened; at_places = e.ages.items };
+      observer = e.observer;
     } };
 }
 
@@ -100,7 +101,7 @@ impl<S: Socket + Drop, O: Observer + Drop> EventLoop<Hub, S, O> {
     ) -> EventLoop<Hub, S, O>
         requires capacity { 0 < config.capacity }
         requires window { IfSome config.window (λ window. 0 < window) }
-        ensures { result ≡ new_loop (new_hub config) true None limits.most_owed }
+        ensures { result ≡ new_loop (new_hub config) true None [] limits.most_owed observer }
     {
         begun_laws();
         EventLoop::over(alloc, Hub::new(alloc, config), limits, observer)
@@ -111,7 +112,7 @@ impl<B: Broker + Drop, S: Socket + Drop, O: Observer + Drop> EventLoop<B, S, O> 
     /// A loop over a broker that made steps before, or was restored, and knows no connection.
     pub fn over(alloc: Global, broker: B, limits: LoopLimits, observer: O) -> EventLoop<B, S, O>
         requires { IsReached (B.state broker) }
-        ensures { result ≡ new_loop (B.state broker) (B.committed broker) (B.calls broker) limits.most_owed }
+        ensures { result ≡ new_loop (B.state broker) (B.committed broker) (B.calls broker) (B.notes broker) limits.most_owed observer }
     {
         EventLoop {
             alloc,
@@ -147,13 +148,10 @@ impl<B: Broker + Drop, S: Socket + Drop, O: Observer + Drop> EventLoop<B, S, O> 
     }
 
     /// The observer.
-    pub fn observer(&self) -> &O {
+    pub fn observer(&self) -> &O
+        ensures { result.now ≡ self.now.observer }
+    {
         &self.observer
-    }
-
-    /// The observer, to be changed.
-    pub fn observer_mut(&mut self) -> &mut O {
-        &mut self.observer
     }
 
     /// The number of bytes of output that are pending for the connection at a place, here and at
@@ -386,6 +384,29 @@ impl<B: Broker + Drop, S: Socket + Drop, O: Observer + Drop> EventLoop<B, S, O> 
             self.last_tick = Some(now);
             self.observer.on_reply(&reply);
         }
+    }
+}
+
+impl<B: Broker + Drop, S: Socket + Drop, O: Observer + Drop> EventLoop<B, S, O> {
+    ghost use Rattle.std.specs.Borrow.{Lends, sem};
+    ghost use Rattle.mq_loop.specs.contracts.event_loop.EventLoop.{the_row};
+
+    /// The observer, to be changed.
+    pub fn observer_mut(&mut self) -> &mut O
+        ensures* writes_back { sem 𝓛 (Lends (the_row B.row S.row O.row B.Broker S.Socket) O.row self.entry result (λ observer. record self.old { observer = observer })) }
+        ensures value { result.now ≡ self.old.observer }
+    {
+        &mut self.observer
+    }
+}
+
+impl<B: SnapshotBroker + Drop, S: Socket + Drop, O: Observer + Drop> EventLoop<B, S, O> {
+    /// Takes the notes about the snapshots that the broker wrote.
+    pub fn take_notes(&mut self) -> Vec<SnapshotNote>
+        ensures taken { result.items ≡ self.old.watched.served.notes }
+        ensures left { self.new ≡ loop_without_notes self.old }
+    {
+        self.watched.take_notes()
     }
 }
 

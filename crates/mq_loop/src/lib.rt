@@ -11,7 +11,7 @@
 //! notes about the acts of the broker, by which a round misses no output and no end.
 //!
 //! Unless stated otherwise, a call that allocates returns a `Result`, and leaves the receiver
-//! unchanged on `Err`. The definitions of the contracts are in `specs/`: `Brokers` (events),
+//! unchanged on `Err`. The definitions of the contracts are in `specs/`: `Brokers` (events, notes),
 //! `Sockets` (reads and writes), `Accounts` (the bytes of a connection in a broker's steps),
 //! `Places` (sets of connections) and `Rounds` (the end of a round).
 #![tactic(auto)]
@@ -31,7 +31,7 @@ mod socket;
 mod turns;
 mod watched;
 
-pub use crate::broker::{Broker, CommitFailure};
+pub use crate::broker::{Broker, CommitFailure, SnapshotBroker, SnapshotNote};
 pub use crate::connection::{Connection, Flushed};
 pub use crate::event_loop::{EventLoop, LoopLimits};
 pub use crate::observer::{NoObserver, Observer};

@@ -2,9 +2,10 @@
 
 ghost use Rattle.std.specs.Prelude.{false, true};
 
-use crate::broker::{Broker, CommitFailure};
+use crate::broker::{Broker, CommitFailure, SnapshotBroker, SnapshotNote};
 use mq_hub::Hub;
 use mq_route::{Conn, HubEvent, HubRefusal, HubReply};
+use std::alloc::Global;
 
 impl Broker for Hub {
     ghost state = { λ hub. hub };
@@ -36,5 +37,11 @@ impl Broker for Hub {
 
     fn commit(&mut self) -> Result<(), CommitFailure> {
         Ok(())
+    }
+}
+
+impl SnapshotBroker for Hub {
+    fn take_notes(&mut self, alloc: Global) -> Vec<SnapshotNote> {
+        Vec::new(alloc)
     }
 }

@@ -3,11 +3,11 @@
 ghost use Rattle.std.specs.Prelude.{◌≡◌, ◌+◌, ◌≤◌, ◌<◌, ◌==◌, ◌∷◌, [], ◌++◌, false, true, None, Some, IfErr, IfNone, IfOk, IfSome, OnErr, OnOk, OnSome, not, length, slice_set, take};
 ghost use Rattle.mq_route.specs.declared.event.HubEvent.TheVariants.{Bytes as BytesSeen, Collect, Ended, Opened, Tick};
 ghost use Rattle.mq_route.specs.Step.{HubStep};
-ghost use Rattle.mq_loop.specs.Accounts.{IsServed, line_at, name_at};
+ghost use Rattle.mq_loop.specs.Accounts.{IsServed, line_at, name_at, without_notes};
 ghost use Rattle.mq_loop.specs.Calls.{Collecting, Reads, commit, step, with_calls};
 ghost use Rattle.mq_loop.specs.Rounds.{AtOutputs, Collects, Hears, HearsNothing, IsFlushed, IsGiven, IsSame, MayCollect, OthersStay, connections_in, exists_at, has_unread, kept_at, output_at, waiting_at};
 
-use crate::broker::{Broker, CommitFailure};
+use crate::broker::{Broker, CommitFailure, SnapshotBroker, SnapshotNote};
 use crate::connection::{Connection, Flushed};
 use crate::socket::Socket;
 use mq_hub::Hub;
@@ -68,7 +68,7 @@ impl<B: Broker, S: Socket> Model for Served<B, S> {
 
     ghost coded = { Prim.hlevel (codes, set.code {R = nat_cmp} coded_ℕ) };
 
-    ghost view = { λ s. served_state (B.state s.base.value) (B.state s.broker) s.connections.items (B.committed s.broker) (B.calls s.broker) };
+    ghost view = { λ s. served_state (B.state s.base.value) (B.state s.broker) s.connections.items (B.committed s.broker) (B.calls s.broker) (B.notes s.broker) };
 
     ghost invariant = { λ s. AreCarried (B.state s.base.value) (B.state s.broker) s.connections.items };
 }
@@ -91,6 +91,7 @@ fn take_some<B: Broker>(broker: &mut B, place: u32, bytes: &[u8]) -> Option<(Hub
     ensures none { IfNone result (B.state broker.new ≡ B.state broker.old) }
     ensures calls { IfSome result (λ r. B.calls broker.new ≡ with_calls (B.calls broker.old) (step (BytesSeen (name_at place) (take r.1 bytes.now)) r.0 ∷ [])) }
     ensures uncalled { IfNone result (B.calls broker.new ≡ B.calls broker.old) }
+    ensures notes { B.notes broker.new ≡ B.notes broker.old }
 {
     match broker.step_some(name_at(place), bytes, MOST_ACTS) {
         Ok((reply, count)) => Some((reply, count)),
@@ -102,7 +103,7 @@ impl<B: Broker + Drop, S: Socket + Drop> Served<B, S> {
     /// A broker that serves no connection yet.
     #[tactic(auto, using(crate::proofs::CarriedBytes::new_served))]
     pub fn new(alloc: Global, broker: B) -> Served<B, S>
-        ensures { result ≡ record { base = B.state broker; hub = B.state broker; lines = []; committed = B.committed broker; calls = B.calls broker } }
+        ensures { result ≡ record { base = B.state broker; hub = B.state broker; lines = []; committed = B.committed broker; calls = B.calls broker; notes = B.notes broker } }
     {
         Served {
             alloc,
@@ -415,5 +416,16 @@ impl<B: Broker + Drop, S: Socket + Drop> Served<B, S> {
         ensures uncalled { OnErr result (self.new.calls ≡ self.old.calls) }
     {
         self.broker.commit()
+    }
+}
+
+impl<B: SnapshotBroker + Drop, S: Socket + Drop> Served<B, S> {
+    /// Takes the broker's notes about snapshots.
+    #[tactic(auto, using(crate::proofs::CarriedBytes::commit_served))]
+    pub fn take_notes(&mut self) -> Vec<SnapshotNote>
+        ensures taken { result.items ≡ self.old.notes }
+        ensures left { self.new ≡ without_notes self.old }
+    {
+        self.broker.take_notes(self.alloc)
     }
 }

@@ -1,12 +1,12 @@
 //! A broker and its connections, with notes about which have output and which are over.
 
 ghost use Rattle.std.specs.Prelude.{◌≡◌, ◌<◌, ◌≤◌, ◌+◌, ◌⊎◌, ◌||◌, ◌∷◌, [], ◌++◌, ◌-◌, ◌^◌, ℕ, false, true, not, ◌==◌, None, Some, IfOk, IfSome, IfNone, OnErr, OnOk, OnSome, length, min};
-ghost use Rattle.mq_loop.specs.Accounts.{IsServed, line_at, served_state};
+ghost use Rattle.mq_loop.specs.Accounts.{IsServed, line_at, served_state, without_notes};
 ghost use Rattle.mq_loop.specs.Calls.{Collecting, Quietly, Reads, commit, with_calls};
 ghost use Rattle.mq_loop.specs.Places.{count_in};
 ghost use Rattle.mq_loop.specs.Rounds.{AreBounded, AreEnded, IsEmpty, IsReached, IsSettled, connections_in, ends_left, exists_at, has_unread, kept_at, pending_at, watched_state};
 
-use crate::broker::{Broker, CommitFailure};
+use crate::broker::{Broker, CommitFailure, SnapshotBroker, SnapshotNote};
 use crate::connection::Flushed;
 use crate::notes::Notes;
 use crate::observer::Observer;
@@ -65,7 +65,7 @@ impl<B: Broker + Drop, S: Socket + Drop> Watched<B, S> {
     /// A broker that serves no connection yet.
     pub(crate) fn new(alloc: Global, broker: B, most_owed: usize) -> Watched<B, S>
         requires { IsReached (B.state broker) }
-        ensures { result ≡ watched_state (served_state (B.state broker) (B.state broker) [] (B.committed broker) (B.calls broker)) most_owed [] [] false }
+        ensures { result ≡ watched_state (served_state (B.state broker) (B.state broker) [] (B.committed broker) (B.calls broker) (B.notes broker)) most_owed [] [] false }
     {
         Watched {
             served: Served::new(alloc, broker),
@@ -395,5 +395,15 @@ impl<B: Broker + Drop, S: Socket + Drop> Watched<B, S> {
         ensures { self.new ≡ self.old }
     {
         self.notes.take_reports()
+    }
+}
+
+impl<B: SnapshotBroker + Drop, S: Socket + Drop> Watched<B, S> {
+    /// Takes the broker's notes about snapshots.
+    pub(crate) fn take_notes(&mut self) -> Vec<SnapshotNote>
+        ensures taken { result.items ≡ self.old.served.notes }
+        ensures left { self.new ≡ record self.old { served = without_notes self.old.served } }
+    {
+        self.served.take_notes()
     }
 }

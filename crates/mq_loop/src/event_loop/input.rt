@@ -218,7 +218,7 @@ impl<B: Broker + Drop, S: Socket + Drop, O: Observer + Drop> EventLoop<B, S, O> 
     // Notes a read, whose acts used this part of the share. Returns how much of the share was used,
     // or `None` if nothing more is to be read now.
     fn note_read(&mut self, place: u32, count: usize, size: usize, used: usize) -> Option<usize>
-        ensures { self.new ≡ self.old }
+        ensures { self.new ≡ record self.old { observer = self.new.observer } }
     {
         self.observer.on_read(count);
         let at = place as usize;

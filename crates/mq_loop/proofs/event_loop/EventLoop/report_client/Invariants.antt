@@ -7,4 +7,5 @@ invariant-loop-act g l = record {
   failure : l.self-inside.failure ≡ l.initial.self-inside.failure;
   ages : l.self-inside.ages ≡ l.initial.self-inside.ages;
   opened : l.self-inside.opened ≡ l.initial.self-inside.opened;
+  observer : l.self-inside.observer ≡ l.initial.self-inside.observer;
 }

@@ -1,8 +1,8 @@
-use Rattle.std.proofs.Common.{take, length-take, sym, subst, ◌∙◌, arith}
+use Rattle.std.proofs.Common.{take, length-take, sym, subst, ⊎_elim, ◌∙◌, arith}
 use Rattle.mq_route.specs.declared.event.HubEvent.TheVariants.{Bytes}
 use Rattle.mq_route.specs.Step.{HubStep}
 use Rattle.mq_loop.specs.Accounts.{ServedState, name_at}
-use Rattle.mq_loop.proofs.CarriedBytes.{line_here, no_bytes, none_lost_served, rest_served, unread_step_served}
+use Rattle.mq_loop.proofs.CarriedBytes.{line_here, no_bytes, none_lost_served, rest_served, same_served, unread_step_served}
 use Rattle.mq_loop.proofs.served.Served.read.Goals as goal
 
 pub invariant_of-self-then-not-is_empty : goal.invariant_of-self-then-not-is_empty
@@ -45,3 +45,11 @@ returns-clause-step g c =
     let r = c.in-Some-take_some-2 in
     let bytes = take r.used (take c.in-Bytes.count c.read.new.buffer) in
     (bytes, subst (λ (v : ServedState). HubStep v.hub (Bytes (name_at c.args.place) bytes) r.reply (g.B.Broker.state c.take_some-2.new.broker)) c.self.view_is r.ensures.step)
+
+pub invariant_of-self-in-End : goal.invariant_of-self-in-End
+invariant_of-self-in-End g c =
+    let s = c.self.inside in
+    let lines = s.connections.items in
+    let is = line_here lines c.args.place c.index_mut.result.now (omega arith) c.index_mut.ensures.value ∙ c.in-Some.is in
+    same_served (g.B.Broker.state s.base.value) (g.B.Broker.state s.broker) lines c.args.place c.in-Some.connection c.read.new.self c.self.invariant (omega arith) is
+    (⊎_elim (λ e. rw e at c.read.ensures.came) (λ e. rw e at c.read.ensures.came) c.in-End.is) c.read.ensures.rest
