@@ -1,3 +1,4 @@
 mod Begins
 mod Fullness
 mod Inputs
+mod Counting

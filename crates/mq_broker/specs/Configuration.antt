@@ -1,5 +1,5 @@
 -- The configuration of a broker.
-use Rattle.std.specs.Prelude.{Some, None, max}
+use Rattle.std.specs.Prelude.{ℕ, ◌+◌, ◌*◌, ◌-◌, ◌^◌, Some, None, max, min}
 use Rattle.mq_decode.specs.Limits.{strict}
 use Rattle.mq_broker.specs.declared.options.BrokerOptions.{BrokerOptions}
 use Rattle.mq_route.specs.declared.config.HubConfig.{HubConfig}
@@ -21,3 +21,9 @@ configuration options = record {
   most_waiting = Some options.max_waiting;
   most_matches = Some options.max_matches;
 }
+
+-- The number of bytes that these options let wait for a connection: messages of QoS 0, the stored
+-- messages, 16 bytes more for each identifier, and 1 MiB of answers.
+abbrev pub most_owed : BrokerOptions → ℕ
+most_owed options =
+    min (options.max_waiting + options.max_stored + 16 * options.capacity + 1048576) (2 ^ 64 - 1)

@@ -4,9 +4,6 @@ use Rattle.mq_broker.specs.declared.end.BrokerEnd.{BrokerEnd}
 use Rattle.mq_broker.specs.declared.end.BrokerEnd.TheVariants as ends
 use Rattle.mq_broker.specs.declared.open_error.OpenError.{OpenError}
 use Rattle.mq_broker.specs.declared.open_error.OpenError.TheVariants as errors
-use Rattle.mq_loop.specs.declared.broker.CommitFailure.{CommitFailure}
-use Rattle.mq_loop.specs.declared.broker.CommitFailure.TheVariants as failures
-use Rattle.mq_store.specs.declared.fault.StoreError.{StoreError}
 use Rattle.mq_store.specs.declared.fault.StoreError.TheVariants as faults
 
 -- a maximum remaining length that the standard allows, and of at least 64 bytes (2.2.3)
@@ -43,9 +40,3 @@ open_status (errors.Store faults.Damaged) = 1
 open_status (errors.Store faults.Entry) = 1
 open_status (errors.Store faults.Refused) = 1
 open_status (errors.Store faults.TooLong) = 1
-
--- why a commit failed, if the next files of the folder were not begun
-abbrev pub next_failure : StoreError → CommitFailure
-next_failure faults.Memory = failures.Memory
-next_failure faults.Full = failures.Full
-next_failure _ = failures.Storage

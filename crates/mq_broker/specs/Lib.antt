@@ -1,4 +1,7 @@
 pub mod Configuration
 pub mod End
+pub mod Failures
 pub mod Lines
+pub mod Missed
 pub mod Recovered
+pub mod Snapshots

@@ -1,6 +1,7 @@
 //! Reasons of a broker to end.
 
 ghost use Rattle.std.specs.Prelude.{◌≡◌, ◌≢◌};
+ghost use Rattle.std.specs.IoError.{error_kind};
 ghost use Rattle.mq_broker.specs.End.{end_status};
 ghost use Rattle.mq_broker.specs.declared.end.BrokerEnd.TheVariants.{PacketLimit};
 
@@ -55,7 +56,9 @@ impl BrokerEnd {
 
     /// Why an address can't be listened on.
     pub(crate) fn of_bind(error: &io::Error) -> BrokerEnd
-        ensures { result ≢ PacketLimit }
+        ensures no_option { result ≢ PacketLimit }
+        ensures in_use { error_kind error.now ≡ ErrorKind.AddrInUse → result ≡ BrokerEnd.AddressInUse }
+        ensures memory { error_kind error.now ≡ ErrorKind.OutOfMemory → result ≡ BrokerEnd.Memory }
     {
         match error.kind() {
             ErrorKind::AddrInUse => BrokerEnd::AddressInUse,
@@ -66,7 +69,9 @@ impl BrokerEnd {
 
     /// Why a wait for connections failed.
     pub(crate) fn of_wait(error: &io::Error) -> BrokerEnd
-        ensures { result ≢ PacketLimit }
+        ensures no_option { result ≢ PacketLimit }
+        ensures memory { error_kind error.now ≡ ErrorKind.OutOfMemory → result ≡ BrokerEnd.Memory }
+        ensures listener { error_kind error.now ≢ ErrorKind.OutOfMemory → result ≡ BrokerEnd.Listener }
     {
         match error.kind() {
             ErrorKind::OutOfMemory => BrokerEnd::Memory,
@@ -87,10 +92,11 @@ impl From<AllocError> for BrokerEnd {
 }
 
 impl From<CommitFailure> for BrokerEnd {
-    ghost use Rattle.std.specs.Prelude.{◌≢◌};
+    ghost use Rattle.std.specs.Prelude.{◌≡◌, ◌≢◌};
+    ghost use Rattle.mq_broker.specs.Failures.{end_of_commit};
     ghost use Rattle.mq_broker.specs.declared.end.BrokerEnd.TheVariants.{PacketLimit};
 
-    ghost from_gives = { λ _ end. end ≢ PacketLimit };
+    ghost from_gives = { λ why end. (end ≡ end_of_commit why) × (end ≢ PacketLimit) };
 
     fn from(failure: CommitFailure) -> BrokerEnd {
         match failure {

@@ -1,22 +1,23 @@
 //! The broker of an event loop, with a journal.
 
 ghost use Rattle.std.specs.Prelude.{◌≡◌, ◌==◌, [], length, true, OnOk};
-ghost use Rattle.mq_broker.specs.End.{next_failure};
+ghost use Rattle.mq_broker.specs.Failures.{next_failure};
+ghost use Rattle.mq_broker.specs.Snapshots.{NotesNext};
+ghost use Rattle.mq_loop.specs.Brokers.{Continues};
 ghost use Rattle.mq_store.specs.Continued.{HasNext, IsFull};
 
-use crate::snapshot::{LastSnapshot, SnapshotNote};
 use mq_durable::{CommitError, Durable, StepRefusal};
 use mq_file::JournalFile;
 use mq_hub::Hub;
 use mq_log::DiskError;
-use mq_loop::{Broker, CommitFailure};
+use mq_loop::{Broker, CommitFailure, SnapshotBroker, SnapshotNote};
 use mq_route::{Conn, HubEvent, HubRefusal, HubReply};
 use mq_store::{DataFolder, StoreError};
 use std::alloc::Global;
 use std::fs::File;
 use std::rt::Files;
 use std::time::Instant;
-use std::{io, time};
+use std::{io, mem, time};
 
 /// A broker whose events are in a journal before their output is collected.
 #[derive(Drop)]
@@ -25,8 +26,8 @@ pub(crate) struct Kept<'a, R: Files<File = File>> {
     pub(crate) alloc: Global,
     pub(crate) durable: Durable<JournalFile>,
     pub(crate) folder: DataFolder,
-    /// The last snapshot, for the log.
-    pub(crate) last: &'a LastSnapshot,
+    /// The notes about snapshots that the log doesn't have yet.
+    pub(crate) notes: Vec<SnapshotNote>,
 }
 
 // Why the broker made no step. A commit reports an earlier failure, and an entry that is full.
@@ -68,26 +69,19 @@ fn milliseconds_since<R: time::Clock>(rt: &R, began: io::Result<Instant>) -> u64
 }
 
 impl<'a, R: time::Clock + Files<File = File>> Kept<'a, R> {
-    // Notes a snapshot of this number of bytes, for the log.
-    fn note_snapshot(&self, began: io::Result<Instant>, bytes: usize) {
-        self.last.set(SnapshotNote {
-            bytes: bytes as u64,
-            sessions: self.durable.hub().counts().sessions as u64,
-            milliseconds: milliseconds_since(self.rt, began),
-        });
-    }
-
-    // Begins the next file, if the one before has reached its size.
+    // Begins the next file, if the one before has reached its size, and notes the snapshot.
     #[tactic(auto, using(crate::proofs::Fullness::just_begun))]
     fn begin_next(&mut self) -> Result<(), CommitFailure>
         requires { self.old.durable.pending ≡ [] }
         ensures hub { self.new.durable.hub ≡ self.old.durable.hub }
         ensures none { self.new.durable.pending ≡ [] }
         ensures same { ¬ (IsFull self.old.folder self.old.durable)
-            → (self.new.durable ≡ self.old.durable) × (self.new.folder ≡ self.old.folder) }
+            → (self.new.durable ≡ self.old.durable) × (self.new.folder ≡ self.old.folder) × (self.new.notes ≡ self.old.notes) }
         ensures begun { IsFull self.old.folder self.old.durable
             → OnOk result (HasNext self.old.folder self.old.durable.hub self.new.folder) }
         ensures not_full { OnOk result (¬ (IsFull self.new.folder self.new.durable)) }
+        ensures noted { OnOk result (NotesNext self.old.folder self.old.durable.hub self.new.folder self.old.notes.items self.new.notes.items) }
+        ensures notes { Continues self.old.notes.items self.new.notes.items }
     {
         if !self.folder.is_full(&self.durable) {
             return Ok(());
@@ -98,8 +92,15 @@ impl<'a, R: time::Clock + Files<File = File>> Kept<'a, R> {
             .begin_next(self.rt, self.alloc, &mut self.durable)
         {
             Ok(bytes) => {
-                self.note_snapshot(began, bytes);
-                Ok(())
+                let note = SnapshotNote {
+                    bytes: bytes as u64,
+                    sessions: self.durable.hub().counts().sessions as u64,
+                    milliseconds: milliseconds_since(self.rt, began),
+                };
+                match self.notes.push(note) {
+                    Ok(()) => Ok(()),
+                    Err(_) => Err(CommitFailure::Memory),
+                }
             }
             Err(error) => Err(next_failure(error)),
         }
@@ -112,6 +113,8 @@ impl<'a, R: time::Clock + Files<File = File>> Broker for Kept<'a, R> {
     ghost committed = { λ kept. length kept.durable.pending == 0 };
 
     ghost can_fail = { true };
+
+    ghost notes = { λ kept. kept.notes.items };
 
     fn hub(&self) -> &Hub {
         self.durable.hub()
@@ -149,10 +152,18 @@ impl<'a, R: time::Clock + Files<File = File>> Broker for Kept<'a, R> {
         ensures ok { OnOk result ((length self.new.durable.pending == 0) ≡ true) }
         ensures state { self.new.durable.hub ≡ self.old.durable.hub }
         ensures not_full { OnOk result (¬ (IsFull self.new.folder self.new.durable)) }
+        ensures noted { OnOk result (NotesNext self.old.folder self.old.durable.hub self.new.folder self.old.notes.items self.new.notes.items) }
+        ensures notes { Continues self.old.notes.items self.new.notes.items }
     {
         match self.durable.commit() {
             Ok(()) => self.begin_next(),
             Err(error) => Err(commit_failure(error)),
         }
+    }
+}
+
+impl<'a, R: time::Clock + Files<File = File>> SnapshotBroker for Kept<'a, R> {
+    fn take_notes(&mut self, alloc: Global) -> Vec<SnapshotNote> {
+        mem::replace(&mut self.notes, Vec::new(alloc))
     }
 }

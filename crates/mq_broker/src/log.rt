@@ -1,22 +1,24 @@
 //! The log of a broker: one line for each occurrence.
 
-ghost use Rattle.std.specs.Prelude.{◌≡◌, ◌≢◌};
+ghost use Rattle.std.specs.Prelude.{◌≡◌, ◌≢◌, OnOk};
 ghost use Rattle.mq_end.specs.declared.reason.CloseReason.TheVariants as ends;
 ghost use Rattle.mq_packet.specs.declared.connack.RefusalCode.{RefusalCode};
 ghost use Rattle.mq_route.specs.declared.close.HubClose.TheVariants as closes;
 ghost use Rattle.mq_status.specs.Log.{line_text};
 ghost use Rattle.mq_broker.specs.Lines.{closed_text, refused_text};
+ghost use Rattle.mq_broker.specs.Snapshots.{AreReported, is_verbose};
 
 use crate::peers::{Peer, Peers};
-use crate::snapshot::{SnapshotNote, write_snapshot};
+use crate::snapshot::write_snapshots;
 use mq_end::CloseReason;
-use mq_loop::Report;
+use mq_loop::{Report, SnapshotNote};
 use mq_route::HubClose;
 use mq_status::{LogLine, write_log};
 use mq_topic::ClientKey;
 use std::alloc::Global;
 use std::io;
 use std::io::Write;
+use std::marker::Model;
 use std::net::SocketAddr;
 
 /// The lines of a log.
@@ -38,9 +40,19 @@ pub struct Log<W: Write> {
     level: LogLevel,
 }
 
+impl<W: Write> Model for Log<W> {
+    ghost use Rattle.mq_broker.specs.Lines.{LogState};
+
+    ghost Value = { LogState };
+
+    ghost view = { λ l. record { written = W.contents l.output; level = l.level } };
+}
+
 impl<W: Write> Log<W> {
     /// A log that writes to `output`.
-    pub fn new(alloc: Global, output: W, level: LogLevel) -> Log<W> {
+    pub fn new(alloc: Global, output: W, level: LogLevel) -> Log<W>
+        ensures { result ≡ record { written = W.contents output; level = level } }
+    {
         Log {
             alloc,
             output,
@@ -168,11 +180,25 @@ impl<W: Write> Log<W> {
         }
     }
 
-    /// Writes that a snapshot was made.
-    pub(crate) fn snapshot(&mut self, note: SnapshotNote) {
-        if self.has(LogLevel::Verbose) {
-            let _ = write_snapshot(&mut self.output, note);
+    // Whether the log has lines about connections and snapshots.
+    fn is_verbose(&self) -> bool
+        ensures { result ≡ is_verbose self.now.level }
+    {
+        match self.level {
+            LogLevel::Verbose => true,
+            LogLevel::Quiet | LogLevel::Normal => false,
         }
+    }
+
+    /// Writes the lines about snapshots, and those that are buffered.
+    pub(crate) fn snapshots(&mut self, notes: &[SnapshotNote]) -> io::Result<()>
+        ensures { OnOk result (AreReported notes.now self.old self.new) }
+    {
+        if notes.is_empty() || !self.is_verbose() {
+            return Ok(());
+        }
+        write_snapshots(&mut self.output, notes)?;
+        self.output.flush()
     }
 
     /// Writes the lines that are buffered.

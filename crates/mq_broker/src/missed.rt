@@ -1,9 +1,13 @@
 //! The messages that clients missed.
 
+ghost use Rattle.std.specs.Prelude.{◌≡◌, ◌≢◌, ◌↔◌, [], IsTrue};
+ghost use Rattle.mq_broker.specs.Missed.{CountsAct, CountsOne, amount};
+
 use mq_route::Act;
 use mq_topic::ClientKey;
 use std::alloc::Global;
 use std::collections::BTreeMap;
+use std::marker::Model;
 use std::mem;
 
 /// The number of copies that each client missed, by session. A copy for which an allocation fails
@@ -17,17 +21,35 @@ pub(crate) struct Missed {
     unlogged: BTreeMap<ClientKey, u64>,
 }
 
+impl Model for Missed {
+    ghost use Rattle.mq_broker.specs.Missed.{Numbers};
+
+    ghost Value = { Numbers };
+
+    ghost view = { λ m. record { totals = m.totals.entries; unlogged = m.unlogged.entries } };
+}
+
+// The number of a client.
+fn amount(numbers: &BTreeMap<ClientKey, u64>, key: ClientKey) -> u64
+    ensures { result ≡ amount key numbers.now.entries }
+{
+    numbers.get(&key).copied().unwrap_or(0)
+}
+
 // Adds one to the number of a client.
-fn count(numbers: &mut BTreeMap<ClientKey, u64>, key: ClientKey) {
-    if let Some(number) = numbers.get_mut(&key) {
-        *number = number.saturating_add(1);
-        return;
+fn count(numbers: &mut BTreeMap<ClientKey, u64>, key: ClientKey)
+    ensures { CountsOne key numbers.old.entries numbers.new.entries }
+{
+    let number = amount(numbers, key).saturating_add(1);
+    match numbers.insert(key, number) {
+        Ok(_) | Err(_) => {}
     }
-    let _ = numbers.insert(key, 1);
 }
 
 impl Missed {
-    pub(crate) fn new(alloc: Global) -> Missed {
+    pub(crate) fn new(alloc: Global) -> Missed
+        ensures { result ≡ record { totals = []; unlogged = [] } }
+    {
         Missed {
             alloc,
             totals: BTreeMap::new(alloc),
@@ -36,7 +58,9 @@ impl Missed {
     }
 
     /// Counts an act, if it is about a missed copy or a removed session.
-    pub(crate) fn count_act(&mut self, act: &Act) {
+    pub(crate) fn count_act(&mut self, act: &Act)
+        ensures { CountsAct act.now self.old self.new }
+    {
         match act {
             Act::Missed(key, _) => {
                 count(&mut self.totals, *key);
@@ -50,17 +74,24 @@ impl Missed {
     }
 
     /// The number of copies that the client of a session missed.
-    pub(crate) fn total(&self, key: ClientKey) -> u64 {
-        self.totals.get(&key).copied().unwrap_or(0)
+    pub(crate) fn total(&self, key: ClientKey) -> u64
+        ensures { result ≡ amount key self.now.totals }
+    {
+        amount(&self.totals, key)
     }
 
     /// Whether there are numbers that the log doesn't have yet.
-    pub(crate) fn has_unlogged(&self) -> bool {
+    pub(crate) fn has_unlogged(&self) -> bool
+        ensures { IsTrue result ↔ (self.now.unlogged ≢ []) }
+    {
         !self.unlogged.is_empty()
     }
 
     /// Takes the numbers that the log doesn't have yet.
-    pub(crate) fn take_unlogged(&mut self) -> BTreeMap<ClientKey, u64> {
+    pub(crate) fn take_unlogged(&mut self) -> BTreeMap<ClientKey, u64>
+        ensures taken { result.entries ≡ self.old.unlogged }
+        ensures left { self.new ≡ record self.old { unlogged = [] } }
+    {
         mem::replace(&mut self.unlogged, BTreeMap::new(self.alloc))
     }
 }

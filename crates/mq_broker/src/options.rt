@@ -2,7 +2,7 @@
 
 ghost use Rattle.std.specs.Prelude.{◌≡◌, ◌↔◌, None, Some, IfSome, IsSome, max};
 ghost use Rattle.mq_decode.specs.Limits.{strict};
-ghost use Rattle.mq_broker.specs.Configuration.{configuration};
+ghost use Rattle.mq_broker.specs.Configuration.{configuration, most_owed};
 ghost use Rattle.mq_broker.specs.End.{IsPacketLimit};
 
 use mq_decode::Limits;
@@ -66,7 +66,9 @@ impl BrokerOptions {
 
     /// The number of bytes that the configuration lets wait for a connection. Only a client that
     /// acknowledges messages before they were sent gets more.
-    pub(crate) fn most_owed(&self) -> usize {
+    pub(crate) fn most_owed(&self) -> usize
+        ensures { result ≡ most_owed self.now }
+    {
         let bytes = self
             .max_waiting
             .saturating_add(self.max_stored)

@@ -15,7 +15,6 @@ use crate::open_error::OpenError;
 use crate::options::BrokerOptions;
 use crate::server::run_at;
 use crate::site::Site;
-use crate::snapshot::LastSnapshot;
 use mq_store::{Store, StoreOptions, open_store};
 use std::alloc::Global;
 use std::fs::File;
@@ -109,15 +108,14 @@ impl RecoveredBroker {
             clock,
             ..
         } = store;
-        let last = LastSnapshot::new();
         let kept = Kept {
             rt,
             alloc,
             durable,
             folder,
-            last: &last,
+            notes: Vec::new(alloc),
         };
-        match run_at(rt, alloc, site, kept, &last, clock, output, log) {
+        match run_at(rt, alloc, site, kept, clock, output, log) {
             Ok(()) => BrokerEnd::Listener,
             Err(end) => end,
         }

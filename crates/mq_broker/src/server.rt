@@ -1,6 +1,6 @@
 //! The loop of a broker over sockets.
 
-ghost use Rattle.std.specs.Prelude.{◌≡◌, ◌≢◌, ◌↔◌, IfErr};
+ghost use Rattle.std.specs.Prelude.{◌≡◌, ◌≢◌, ◌↔◌, [], IfErr, OnErr};
 ghost use Rattle.mq_broker.specs.End.{IsPacketLimit};
 ghost use Rattle.mq_broker.specs.declared.end.BrokerEnd.TheVariants.{PacketLimit};
 ghost use Rattle.mq_loop.specs.Rounds.{IsReached};
@@ -16,12 +16,11 @@ use crate::log::{Log, LogLevel};
 use crate::options::BrokerOptions;
 use crate::peers::Peers;
 use crate::site::Site;
-use crate::snapshot::LastSnapshot;
 use crate::status_port::StatusPort;
 use mio::net::{TcpListener, TcpStream};
 use mio::{Events, Poll, Token};
 use mq_hub::Hub;
-use mq_loop::{Broker, EventLoop, NonBlocking};
+use mq_loop::{Broker, EventLoop, NonBlocking, SnapshotBroker};
 use mq_route::begun_laws;
 use mq_stream::{Clock, Elapsed};
 use std::alloc::{AllocError, Global};
@@ -93,21 +92,18 @@ pub fn run_broker<R: Net + time::Clock, W: Write, L: Write + Drop>(
     begun_laws();
     let site = Site::new(&options, packets);
     let hub = Hub::new(alloc, options.into_config(packets));
-    let last = LastSnapshot::new();
-    match run_at(rt, alloc, site, hub, &last, 0, output, log) {
+    match run_at(rt, alloc, site, hub, 0, output, log) {
         Ok(()) => BrokerEnd::Listener,
         Err(end) => end,
     }
 }
 
 /// Runs a broker whose clock continues from a time in milliseconds. It must know no connection.
-/// The log reports the snapshots that the broker notes in `last`.
-pub(crate) fn run_at<R: Net + time::Clock, B: Broker + Drop, W: Write, L: Write + Drop>(
+pub(crate) fn run_at<R: Net + time::Clock, B: SnapshotBroker + Drop, W: Write, L: Write + Drop>(
     rt: &R,
     alloc: Global,
     site: Site,
     broker: B,
-    last: &LastSnapshot,
     began_at: u64,
     output: &mut W,
     log: Log<L>,
@@ -116,7 +112,7 @@ pub(crate) fn run_at<R: Net + time::Clock, B: Broker + Drop, W: Write, L: Write 
     ensures { IfErr result (λ end. end ≢ PacketLimit) }
 {
     let mut server = Server::open(rt, alloc, site, broker, began_at, log)?;
-    server.serve(rt, alloc, last, output)
+    server.serve(rt, alloc, output)
 }
 
 fn new_poll<R: Net>(rt: &R) -> Result<Poll, BrokerEnd>
@@ -196,41 +192,31 @@ impl<B: Broker + Drop, L: Write + Drop> Server<B, L> {
         Ok(())
     }
 
-    // Makes round after round.
+    // Waits, makes a round, and accepts connections. Returns the time of the round.
     //
     // A new connection takes a free place, so the reports about the last connection of that place
     // are written before it. It is accepted after a round, so that the broker knows the time.
-    fn serve<R: time::Clock, W: Write>(
+    fn turn<R: time::Clock>(
         &mut self,
         rt: &R,
         alloc: Global,
-        last: &LastSnapshot,
-        output: &mut W,
-    ) -> Result<(), BrokerEnd>
+        clock: &mut Elapsed<'_, R>,
+        events: &mut Events<Global>,
+        buffer: &mut [u8],
+        last: u64,
+    ) -> Result<u64, BrokerEnd>
         ensures { IfErr result (λ end. end ≢ PacketLimit) }
     {
-        self.announce(output)?;
-        let Ok(start) = Instant::now(rt) else {
-            return Err(BrokerEnd::Listener);
-        };
-        let mut clock = Elapsed::since(rt, start);
-        let most = self.most.saturating_add(1).min(MOST_EVENTS);
-        let mut events = Events::with_capacity(alloc, most)?;
-        let mut buffer = vec![in alloc; 0u8; CHUNK]?;
-        let mut now = self.began_at;
-        for _ in 0..u64::MAX {
-            self.wait(&mut events, now)?;
-            now = self.began_at.saturating_add(clock.now());
-            let began = Instant::now(rt);
-            let settled = self.connections.round(now, buffer.as_mut_slice());
-            self.count_round(rt, began);
-            self.report_snapshot(last);
-            self.take_reports(now);
-            settled?;
-            self.accept_all(now)?;
-            self.answer_requests(alloc, &events);
-        }
-        Ok(())
+        self.wait(events, last)?;
+        let now = self.began_at.saturating_add(clock.now());
+        let began = Instant::now(rt);
+        let settled = self.connections.round(now, buffer);
+        self.count_round(rt, began);
+        self.take_reports(now);
+        settled?;
+        self.accept_all(now)?;
+        self.answer_requests(alloc, events);
+        Ok(now)
     }
 
     // Waits until a connection is ready, or until the broker needs a tick.
@@ -296,6 +282,49 @@ impl<B: Broker + Drop, L: Write + Drop> Server<B, L> {
             return None;
         }
         Some(Duration::from_millis(limit))
+    }
+}
+
+impl<B: SnapshotBroker + Drop, L: Write + Drop> Server<B, L> {
+    // Makes round after round.
+    fn serve<R: time::Clock, W: Write>(
+        &mut self,
+        rt: &R,
+        alloc: Global,
+        output: &mut W,
+    ) -> Result<(), BrokerEnd>
+        ensures { IfErr result (λ end. end ≢ PacketLimit) }
+    {
+        self.announce(output)?;
+        let Ok(start) = Instant::now(rt) else {
+            return Err(BrokerEnd::Listener);
+        };
+        let mut clock = Elapsed::since(rt, start);
+        let most = self.most.saturating_add(1).min(MOST_EVENTS);
+        let mut events = Events::with_capacity(alloc, most)?;
+        let mut buffer = vec![in alloc; 0u8; CHUNK]?;
+        self.serve_rounds(rt, alloc, &mut clock, &mut events, buffer.as_mut_slice())
+    }
+
+    // Makes round after round. After each one the log gets the notes about snapshots.
+    fn serve_rounds<R: time::Clock>(
+        &mut self,
+        rt: &R,
+        alloc: Global,
+        clock: &mut Elapsed<'_, R>,
+        events: &mut Events<Global>,
+        buffer: &mut [u8],
+    ) -> Result<(), BrokerEnd>
+        ensures limit { IfErr result (λ end. end ≢ PacketLimit) }
+        ensures reported { OnErr result (self.new.connections.watched.served.notes ≡ []) }
+    {
+        let mut now = self.began_at;
+        for _ in 0..u64::MAX {
+            let turned = self.turn(rt, alloc, clock, events, buffer, now);
+            let _ = self.report_snapshots();
+            now = turned?;
+        }
+        Ok(())
     }
 }
 

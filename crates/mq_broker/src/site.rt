@@ -1,5 +1,8 @@
 //! The addresses and limits of a broker.
 
+ghost use Rattle.std.specs.Prelude.{◌≡◌};
+ghost use Rattle.mq_broker.specs.Configuration.{most_owed};
+
 use crate::options::BrokerOptions;
 use mq_decode::Limits;
 use mq_loop::LoopLimits;
@@ -22,7 +25,13 @@ pub(crate) struct Site {
 }
 
 impl Site {
-    pub(crate) fn new(options: &BrokerOptions, packets: Limits) -> Site {
+    pub(crate) fn new(options: &BrokerOptions, packets: Limits) -> Site
+        ensures listen { result.listen ≡ options.now.listen }
+        ensures metrics { result.metrics ≡ options.now.metrics }
+        ensures connections { result.max_connections ≡ options.now.max_connections }
+        ensures owed { result.limits.most_owed ≡ most_owed options.now }
+        ensures packets { result.limits.packets ≡ packets }
+    {
         Site {
             listen: options.listen,
             metrics: options.metrics,

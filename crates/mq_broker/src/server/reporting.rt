@@ -1,8 +1,11 @@
 //! The log of the rounds.
 
+ghost use Rattle.std.specs.Prelude.{◌≡◌, [], OnOk};
+ghost use Rattle.mq_broker.specs.Snapshots.{AreReported};
+
 use super::Server;
-use crate::snapshot::LastSnapshot;
-use mq_loop::{Broker, Report};
+use mq_loop::{Broker, Report, SnapshotBroker};
+use std::io;
 use std::io::Write;
 
 /// The time between two lines about missed messages, in milliseconds.
@@ -21,13 +24,6 @@ impl<B: Broker + Drop, L: Write + Drop> Server<B, L> {
             }
         }
         self.log.flush();
-    }
-
-    // Writes to the log that a round made a snapshot.
-    pub(super) fn report_snapshot(&mut self, last: &LastSnapshot) {
-        if let Some(note) = last.take() {
-            self.log.snapshot(note);
-        }
     }
 
     fn take_report(&mut self, report: &Report) {
@@ -86,5 +82,16 @@ impl<B: Broker + Drop, L: Write + Drop> Server<B, L> {
         for (key, messages) in missed.iter() {
             self.log.missed_before_end(*key, *messages);
         }
+    }
+}
+
+impl<B: SnapshotBroker + Drop, L: Write + Drop> Server<B, L> {
+    // Takes the notes about snapshots, and writes their lines to the log.
+    pub(super) fn report_snapshots(&mut self) -> io::Result<()>
+        ensures taken { self.new.connections.watched.served.notes ≡ [] }
+        ensures lines { OnOk result (AreReported self.old.connections.watched.served.notes self.old.log self.new.log) }
+    {
+        let notes = self.connections.take_notes();
+        self.log.snapshots(notes.as_slice())
     }
 }

@@ -14,6 +14,7 @@ pub commit-tells : goal.commit-tells
 commit-tells g c = record {
   ok = c.ensures.ok;
   state = c.ensures.state;
+  notes = c.ensures.notes;
   sure = on_err c.result _ refl;
   calls = on_ok c.result _ refl;
   uncalled = on_err c.result _ refl;
