@@ -1,9 +1,9 @@
 //! The definition of the command line: the commands with their arguments, and the help texts.
 
-ghost use Rattle.std.specs.Prelude.{◌≡◌, false, codes, IfOk};
-ghost use Rattle.clap.specs.Words.{App, app_of, new_app, rule_of, with_rule, with_subcommand};
+ghost use Rattle.std.specs.Prelude.{◌≡◌, false, codes, map, IfOk, IfSome};
+ghost use Rattle.clap.specs.Words.{App, Shape, app_of, new_app, rule_of, shape_of, with_rule, with_subcommand};
 ghost use Rattle.clap.specs.declared.builder.command.Command.TheViews.{out-Command};
-ghost use Rattle.mq_cli.specs.Grammar.{bare_words, check_words, client_words, collect_words, file_rule, flag_rule, job_words, lenient_rule, match_words, number_rule, port_rule, program_words, publish_words, qos_rule, random_words, replay_words, serve_words, served_words, show_words, socket_words, stream_words, text_rule, texts_rule, word_words};
+ghost use Rattle.mq_cli.specs.Grammar.{bare_words, check_words, client_words, collect_words, command_named, file_rule, flag_rule, job_words, lenient_rule, match_words, number_rule, port_rule, program_words, publish_words, qos_rule, random_words, replay_words, serve_words, served_words, show_words, socket_words, stream_words, text_rule, texts_rule, word_words};
 
 use crate::broker::broker_command;
 use clap::builder::ValueParser;
@@ -503,29 +503,48 @@ pub fn command_line<'a>(alloc: Global) -> Result<Command<'a>, AllocError>
     with_command(line, manual_command(alloc))
 }
 
+// The command with this text before its arguments in the usage line.
+fn with_usage<'a>(
+    command: Result<Command<'a>, AllocError>,
+    usage: &str,
+) -> Result<Command<'a>, AllocError>
+    ensures { (shape : Shape) → IfOk command.entry (λ c. shape_of c ≡ shape)
+        → IfOk result (λ new. shape_of new ≡ shape) }
+{
+    match command {
+        Ok(command) => command.bin_name(usage),
+        Err(error) => Err(error),
+    }
+}
+
 /// The command of this name for the usage line of an error, or the whole command line.
-pub(crate) fn shown_command<'a>(alloc: Global, name: &str) -> Result<Command<'a>, AllocError> {
+pub(crate) fn shown_command<'a>(alloc: Global, name: &str) -> Result<Command<'a>, AllocError>
+    ensures { IfOk result (λ command. IfSome (command_named name.now)
+        (λ shape. shape_of command ≡ shape)) }
+{
     match name {
-        "show" => show_command(alloc)?.bin_name("mqtt show"),
-        "check" => check_command(alloc)?.bin_name("mqtt check"),
-        "match" => match_command(alloc)?.bin_name("mqtt match"),
-        "replay" => replay_command(alloc)?.bin_name("mqtt replay"),
-        "random" => random_command(alloc)?.bin_name("mqtt random"),
-        "serve" => serve_command(alloc)?.bin_name("mqtt serve"),
-        "publish" => publish_command(alloc)?.bin_name("mqtt publish"),
-        "collect" => collect_command(alloc)?.bin_name("mqtt collect"),
-        "broker" => broker_command(alloc)?.bin_name("mqtt broker"),
-        "journal" => journal_command(alloc)?.bin_name("mqtt journal"),
-        "password" => password_command(alloc)?.bin_name("mqtt password"),
-        "loopback" => loopback_command(alloc)?.bin_name("mqtt loopback"),
-        "completion" => completion_command(alloc)?.bin_name("mqtt completion"),
-        "manual" => manual_command(alloc)?.bin_name("mqtt manual"),
+        "show" => with_usage(show_command(alloc), "mqtt show"),
+        "check" => with_usage(check_command(alloc), "mqtt check"),
+        "match" => with_usage(match_command(alloc), "mqtt match"),
+        "replay" => with_usage(replay_command(alloc), "mqtt replay"),
+        "random" => with_usage(random_command(alloc), "mqtt random"),
+        "serve" => with_usage(serve_command(alloc), "mqtt serve"),
+        "publish" => with_usage(publish_command(alloc), "mqtt publish"),
+        "collect" => with_usage(collect_command(alloc), "mqtt collect"),
+        "broker" => with_usage(broker_command(alloc), "mqtt broker"),
+        "journal" => with_usage(journal_command(alloc), "mqtt journal"),
+        "password" => with_usage(password_command(alloc), "mqtt password"),
+        "loopback" => with_usage(loopback_command(alloc), "mqtt loopback"),
+        "completion" => with_usage(completion_command(alloc), "mqtt completion"),
+        "manual" => with_usage(manual_command(alloc), "mqtt manual"),
         _ => command_line(alloc),
     }
 }
 
 /// Each command of the command line, with the usage line that its help shows.
-pub fn command_list<'a>(alloc: Global) -> Result<Vec<Command<'a>>, AllocError> {
+pub fn command_list<'a>(alloc: Global) -> Result<Vec<Command<'a>>, AllocError>
+    ensures { IfOk result (λ commands. map shape_of commands.items ≡ program_words.subs) }
+{
     let line = command_line(alloc)?;
     let mut commands = Vec::new(alloc);
     for command in line.get_subcommands() {
