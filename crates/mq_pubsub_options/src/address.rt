@@ -1,7 +1,7 @@
 //! Addresses of brokers.
 
 ghost use Rattle.std.specs.Prelude.{◌≡◌, codes, option_map, string_bytes, IfOk};
-ghost use Rattle.clap.specs.Words.{found_of};
+ghost use Rattle.clap.specs.Words.{first_value, found_of};
 ghost use Rattle.mq_pubsub_options.specs.Options.{IsLoginPart, first_of_three};
 
 use crate::fault::OptionFault;
@@ -44,12 +44,12 @@ pub struct Address {
 
 // The parts of a URL.
 #[derive(Drop)]
-struct Parts {
+struct Parts<'a> {
     host: Option<String>,
     port: Option<u16>,
     user: Option<String>,
     password: Option<String>,
-    topic: Option<String>,
+    topic: Option<&'a str>,
 }
 
 // The text of a part of a URL, without its escapes.
@@ -65,18 +65,31 @@ fn decoded(alloc: Global, text: &str) -> Result<Option<String>, AllocError> {
 
 // The text behind the host and the port of a URL. It is taken as it is, since `#` and `?` have no
 // meaning in topics.
-fn topic_in(alloc: Global, text: &str) -> Result<Option<String>, AllocError> {
-    let Some((_, rest)) = text.split_once("://") else {
-        return Ok(None);
-    };
-    match rest.split_once('/') {
-        Some((_, "")) | None => Ok(None),
-        Some((_, topic)) => Ok(Some(String::from_str(alloc, topic)?)),
+fn topic_in(text: &str) -> Option<&str> {
+    let (_, rest) = text.split_once("://")?;
+    let (_, topic) = rest.split_once('/')?;
+    if topic.is_empty() {
+        return None;
     }
+    Some(topic)
+}
+
+// The parts of a URL with this topic.
+fn parts_in<'a>(alloc: Global, url: &Url, topic: Option<&'a str>) -> Result<Parts<'a>, AllocError> {
+    let host = decoded(alloc, url.host_str().unwrap_or(""))?;
+    let user = decoded(alloc, url.username())?;
+    let password = decoded(alloc, url.password().unwrap_or(""))?;
+    Ok(Parts {
+        host,
+        port: url.port(),
+        user,
+        password,
+        topic,
+    })
 }
 
 // The parts of a URL of `-L`.
-fn parts_of(alloc: Global, text: &str) -> Result<Parts, OptionFault> {
+fn parts_of(alloc: Global, text: &str) -> Result<Parts<'_>, OptionFault> {
     let Ok(url) = Url::parse(alloc, text) else {
         return Err(said(
             alloc,
@@ -89,21 +102,7 @@ fn parts_of(alloc: Global, text: &str) -> Result<Parts, OptionFault> {
             "the URL after -L does not begin with mqtt://: other schemes, as mqtts, are not supported",
         ));
     }
-    let host = match url.host_str() {
-        Some(host) => decoded(alloc, host)?,
-        None => None,
-    };
-    let password = match url.password() {
-        Some(password) => decoded(alloc, password)?,
-        None => None,
-    };
-    Ok(Parts {
-        host,
-        port: url.port(),
-        user: decoded(alloc, url.username())?,
-        password,
-        topic: topic_in(alloc, text)?,
-    })
+    Ok(parts_in(alloc, &url, topic_in(text))?)
 }
 
 // The port in a text of the environment.
@@ -117,24 +116,45 @@ fn port_in(alloc: Global, text: &str) -> Result<u16, OptionFault> {
     }
 }
 
-// The first of these that is there.
-fn first(option: Option<String>, url: Option<String>, default: Option<String>) -> Option<String>
-    ensures { result ≡ first_of_three option url default }
+// A text, if it is there.
+fn shown(text: &Option<String>) -> Option<&str>
+    ensures { option_map (λ text. text.now) result ≡ option_map string_bytes text.now }
 {
-    match option {
-        Some(text) => {
-            drop(url);
-            drop(default);
-            Some(text)
-        }
-        None => match url {
-            Some(text) => {
-                drop(default);
-                Some(text)
-            }
-            None => default,
-        },
+    match text {
+        Some(text) => Some(text.as_str()),
+        None => None,
     }
+}
+
+// A copy of a text, if it is there.
+fn copied(alloc: Global, text: Option<&str>) -> Result<Option<String>, AllocError>
+    ensures { IfOk result
+        (λ copy. option_map string_bytes copy ≡ option_map (λ text. text.now) text.entry) }
+{
+    match text {
+        Some(text) => Ok(Some(String::from_str(alloc, text)?)),
+        None => Ok(None),
+    }
+}
+
+// A copy of the first of these that is there.
+fn first(
+    alloc: Global,
+    option: Option<&str>,
+    url: &Option<String>,
+    default: &Option<String>,
+) -> Result<Option<String>, AllocError>
+    ensures { IfOk result (λ text. option_map string_bytes text ≡ first_of_three
+        (option_map (λ text. text.now) option.entry)
+        (option_map string_bytes url.now) (option_map string_bytes default.now)) }
+{
+    if option.is_some() {
+        return copied(alloc, option);
+    }
+    if url.is_some() {
+        return copied(alloc, shown(url));
+    }
+    copied(alloc, shown(default))
 }
 
 // The port of an option, of a URL or of the environment.
@@ -158,54 +178,81 @@ fn port_of(
 }
 
 // The host without the brackets around an IPv6 address.
-fn unbracketed(alloc: Global, host: String) -> Result<String, AllocError> {
-    let bare = match host.as_str().strip_prefix('[') {
-        Some(rest) => rest.strip_suffix(']'),
-        None => None,
-    };
-    match bare {
-        Some(bare) => String::from_str(alloc, bare),
-        None => String::from_str(alloc, host.as_str()),
+fn unbracketed(host: &str) -> &str {
+    match host.strip_prefix('[') {
+        Some(rest) => rest.strip_suffix(']').unwrap_or(host),
+        None => host,
     }
+}
+
+// The host of an option, of a URL or of the environment.
+fn host_of(
+    alloc: Global,
+    matches: &ArgMatches<'_>,
+    url: &Option<String>,
+    default: &Option<String>,
+) -> Result<String, AllocError> {
+    let host = matches.get_str("HOST").or(shown(url)).or(shown(default));
+    String::from_str(alloc, unbracketed(host.unwrap_or("localhost")))
+}
+
+// The address in the options, a URL and the environment.
+fn address_in(
+    alloc: Global,
+    matches: &ArgMatches<'_>,
+    parts: &Parts<'_>,
+    defaults: &Defaults,
+) -> Result<Address, OptionFault>
+    ensures user { IfOk result (λ address. option_map string_bytes address.user ≡ first_of_three
+        (first_value (found_of matches.now) (codes "USER"))
+        (option_map string_bytes parts.now.user) (option_map string_bytes defaults.now.user)) }
+    ensures password { IfOk result
+        (λ address. option_map string_bytes address.password ≡ first_of_three
+        (first_value (found_of matches.now) (codes "PASSWORD"))
+        (option_map string_bytes parts.now.password)
+        (option_map string_bytes defaults.now.password)) }
+{
+    let port = port_of(alloc, matches, parts.port, &defaults.port)?;
+    let host = host_of(alloc, matches, &parts.host, &defaults.host)?;
+    let topic = copied(alloc, parts.topic)?;
+    let user = first(alloc, matches.get_str("USER"), &parts.user, &defaults.user)?;
+    let password = first(
+        alloc,
+        matches.get_str("PASSWORD"),
+        &parts.password,
+        &defaults.password,
+    )?;
+    Ok(Address {
+        host,
+        port,
+        user,
+        password,
+        topic,
+    })
 }
 
 /// The address in the options and the environment.
 pub(crate) fn address_of(
     alloc: Global,
     matches: &ArgMatches<'_>,
-    defaults: Defaults,
+    defaults: &Defaults,
 ) -> Result<Address, OptionFault>
     ensures user { IfOk result (λ address. IsLoginPart (found_of matches.now) (codes "USER")
-        (option_map string_bytes defaults.user) (option_map string_bytes address.user)) }
+        (option_map string_bytes defaults.now.user) (option_map string_bytes address.user)) }
     ensures password { IfOk result (λ address. IsLoginPart (found_of matches.now)
-        (codes "PASSWORD") (option_map string_bytes defaults.password)
+        (codes "PASSWORD") (option_map string_bytes defaults.now.password)
         (option_map string_bytes address.password)) }
 {
-    let parts = match matches.get_str("URL") {
-        Some(text) => parts_of(alloc, text)?,
-        None => Parts {
-            host: None,
-            port: None,
-            user: None,
-            password: None,
-            topic: None,
-        },
+    if let Some(text) = matches.get_str("URL") {
+        let parts = parts_of(alloc, text)?;
+        return address_in(alloc, matches, &parts, defaults);
+    }
+    let none = Parts {
+        host: None,
+        port: None,
+        user: None,
+        password: None,
+        topic: None,
     };
-    let port = port_of(alloc, matches, parts.port, &defaults.port)?;
-    let host = first(owned(alloc, matches, "HOST")?, parts.host, defaults.host);
-    let host = match host {
-        Some(host) => unbracketed(alloc, host)?,
-        None => String::from_str(alloc, "localhost")?,
-    };
-    Ok(Address {
-        host,
-        port,
-        user: first(owned(alloc, matches, "USER")?, parts.user, defaults.user),
-        password: first(
-            owned(alloc, matches, "PASSWORD")?,
-            parts.password,
-            defaults.password,
-        ),
-        topic: parts.topic,
-    })
+    address_in(alloc, matches, &none, defaults)
 }

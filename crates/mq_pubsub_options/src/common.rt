@@ -1,6 +1,6 @@
 //! The options that both commands have.
 
-ghost use Rattle.std.specs.Prelude.{codes, IfOk};
+ghost use Rattle.std.specs.Prelude.{◌≡◌, codes, option_map, string_bytes, IfOk};
 ghost use Rattle.clap.specs.Words.{first_value, found_of, one_text};
 ghost use Rattle.mq_pubsub_options.specs.Options.{IsCommon, IsLongestWait, IsNumberOr, IsWillOf};
 
@@ -9,7 +9,7 @@ use crate::fault::OptionFault;
 use crate::values::{duration_of, flag_of, name_of, owned, qos_of, said};
 use clap::ArgMatches;
 use mq_topic::{Qos, TopicName};
-use std::alloc::Global;
+use std::alloc::{AllocError, Global};
 
 /// The longest wait before a new connection without `--retry`, in milliseconds.
 const LONGEST_WAIT: u64 = 30_000;
@@ -109,23 +109,53 @@ fn keep_alive_of(matches: &ArgMatches<'_>) -> u16
     keep_alive.unwrap_or(KEEP_ALIVE)
 }
 
+// The options with names.
+#[derive(Drop)]
+struct Names {
+    password_file: Option<String>,
+    id: Option<String>,
+    session: Option<String>,
+}
+
+fn names_of(alloc: Global, matches: &ArgMatches<'_>) -> Result<Names, AllocError>
+    ensures password_file { IfOk result (λ names. option_map string_bytes names.password_file
+        ≡ first_value (found_of matches.now) (codes "PASSWORD_FILE")) }
+    ensures id { IfOk result (λ names. option_map string_bytes names.id
+        ≡ first_value (found_of matches.now) (codes "ID")) }
+    ensures session { IfOk result (λ names. option_map string_bytes names.session
+        ≡ first_value (found_of matches.now) (codes "SESSION")) }
+{
+    let password_file = owned(alloc, matches, "PASSWORD_FILE")?;
+    let id = owned(alloc, matches, "ID")?;
+    let session = owned(alloc, matches, "SESSION")?;
+    Ok(Names {
+        password_file,
+        id,
+        session,
+    })
+}
+
 /// The options that both commands have.
 pub(crate) fn common_of(
     alloc: Global,
     matches: &ArgMatches<'_>,
-    defaults: Defaults,
+    defaults: &Defaults,
 ) -> Result<Common, OptionFault>
     ensures { IfOk result (IsCommon (found_of matches.now)) }
 {
-    let address = address_of(alloc, matches, defaults)?;
-    let session = owned(alloc, matches, "SESSION")?;
-    let will = will_of(alloc, matches)?;
     let timeout = duration_of(alloc, matches, "TIMEOUT", "-W")?;
     let longest_wait = longest_wait_of(alloc, matches)?;
+    let address = address_of(alloc, matches, defaults)?;
+    let will = will_of(alloc, matches)?;
+    let Names {
+        password_file,
+        id,
+        session,
+    } = names_of(alloc, matches)?;
     Ok(Common {
         address,
-        password_file: owned(alloc, matches, "PASSWORD_FILE")?,
-        id: owned(alloc, matches, "ID")?,
+        password_file,
+        id,
         keeps: session.is_some() || flag_of(matches, "KEEP"),
         session,
         keep_alive: keep_alive_of(matches),

@@ -13,8 +13,12 @@ refused connection; 27 the time of -W is over.";
 /// The values that an option takes.
 #[derive(Clone, Copy)]
 enum Kind {
+    /// Prints the help.
+    Help,
     /// One text. A later use replaces an earlier one.
     Text,
+    /// The same, for an option that has this name too.
+    Renamed(&'static str),
     /// One text for each use.
     Texts,
     /// A number with these bounds.
@@ -37,7 +41,15 @@ struct Row {
 }
 
 /// The options of both commands.
-const COMMON: [Row; 18] = [
+static COMMON: [Row; 19] = [
+    Row {
+        id: "HELP",
+        short: None,
+        long: Some("help"),
+        kind: Kind::Help,
+        value: "",
+        help: "Prints this help",
+    },
     Row {
         id: "HOST",
         short: Some('h'),
@@ -185,7 +197,7 @@ const COMMON: [Row; 18] = [
 ];
 
 /// The options of `mqtt pub`.
-const PUBLISH: [Row; 9] = [
+static PUBLISH: [Row; 10] = [
     Row {
         id: "TOPIC",
         short: Some('t'),
@@ -258,20 +270,18 @@ const PUBLISH: [Row; 9] = [
         value: "N",
         help: "Publishes this many times; not with -l [default: 1]",
     },
+    Row {
+        id: "DELAY",
+        short: None,
+        long: Some("delay"),
+        kind: Kind::Renamed("repeat-delay"),
+        value: "SECONDS",
+        help: "Waits this long before each message but the first",
+    },
 ];
 
-/// The option `--delay`, which has two long names.
-const DELAY: Row = Row {
-    id: "DELAY",
-    short: None,
-    long: Some("delay"),
-    kind: Kind::Text,
-    value: "SECONDS",
-    help: "Waits this long before each message but the first",
-};
-
 /// The options of `mqtt sub`.
-const SUBSCRIBE: [Row; 11] = [
+static SUBSCRIBE: [Row; 11] = [
     Row {
         id: "TOPIC",
         short: Some('t'),
@@ -362,25 +372,45 @@ const SUBSCRIBE: [Row; 11] = [
     },
 ];
 
+// An argument with the names of a row.
+fn named<'a>(arg: Arg<'a>, row: &Row) -> Arg<'a> {
+    match (row.short, row.long) {
+        (Some(short), Some(long)) => arg.short(short).long(long),
+        (Some(short), None) => arg.short(short),
+        (None, Some(long)) => arg.long(long),
+        (None, None) => arg,
+    }
+}
+
+// An argument with a text.
+fn texted<'a>(arg: Arg<'a>, row: &Row) -> Arg<'a> {
+    arg.value_name(row.value).allow_hyphen_values(true)
+}
+
 // An argument of a row.
-fn arg_of<'a>(alloc: Global, row: &Row) -> Arg<'a> {
-    let mut arg = Arg::new(alloc, row.id).help(row.help);
-    if let Some(short) = row.short {
-        arg = arg.short(short);
-    }
-    if let Some(long) = row.long {
-        arg = arg.long(long);
-    }
+fn arg_of<'a>(alloc: Global, row: &Row) -> Result<Arg<'a>, AllocError> {
+    let arg = named(Arg::new(alloc, row.id).help(row.help), row);
     match row.kind {
-        Kind::Text => arg.value_name(row.value).allow_hyphen_values(true),
-        Kind::Texts => arg
-            .value_name(row.value)
-            .allow_hyphen_values(true)
-            .action(ArgAction::Append),
-        Kind::Number(least, most) => arg
-            .value_name(row.value)
-            .value_parser(value_parser!(u32).range(least..=most)),
-        Kind::Flag => arg.action(ArgAction::SetTrue),
+        Kind::Help => Ok(arg.action(ArgAction::Help)),
+        Kind::Text => Ok(texted(arg, row)),
+        Kind::Renamed(other) => texted(arg, row).alias(other),
+        Kind::Texts => Ok(texted(arg, row).action(ArgAction::Append)),
+        Kind::Number(least, most) => Ok(
+            arg.value_name(row.value)
+                .value_parser(value_parser!(u32).range(least..=most)),
+        ),
+        Kind::Flag => Ok(arg.action(ArgAction::SetTrue)),
+    }
+}
+
+// Adds the argument of a row.
+fn with_row<'a>(command: Command<'a>, alloc: Global, row: &Row) -> Result<Command<'a>, AllocError> {
+    match arg_of(alloc, row) {
+        Ok(arg) => command.arg(arg),
+        Err(error) => {
+            drop(command);
+            Err(error)
+        }
     }
 }
 
@@ -391,16 +421,17 @@ fn with_rows<'a>(
     rows: &[Row],
 ) -> Result<Command<'a>, AllocError> {
     for row in rows {
-        command = command.arg(arg_of(alloc, row))?;
+        command = with_row(command, alloc, row)?;
     }
     Ok(command)
 }
 
-// A command with the options that both have.
-fn common<'a>(
+// A command with the options that both have, and with these.
+fn command_of<'a>(
     alloc: Global,
     name: &'static str,
     about: &'static str,
+    rows: &[Row],
 ) -> Result<Command<'a>, AllocError> {
     let command = Command::new(alloc, name)
         .about(about)
@@ -408,24 +439,17 @@ fn common<'a>(
         .disable_help_flag(true)
         .disable_version_flag(true)
         .args_override_self(true);
-    let help = Arg::new(alloc, "HELP")
-        .long("help")
-        .help("Prints this help")
-        .action(ArgAction::Help);
-    with_rows(command.arg(help)?, alloc, &COMMON)
+    with_rows(with_rows(command, alloc, &COMMON)?, alloc, rows)
 }
 
 /// The command line of `mqtt pub`.
 pub fn publish_command<'a>(alloc: Global) -> Result<Command<'a>, AllocError> {
     let about = "Publishes messages, and ends once the broker has acknowledged all of them";
-    let command = common(alloc, "mqtt pub", about)?;
-    let command = with_rows(command, alloc, &PUBLISH)?;
-    command.arg(arg_of(alloc, &DELAY).alias("repeat-delay")?)
+    command_of(alloc, "mqtt pub", about, &PUBLISH)
 }
 
 /// The command line of `mqtt sub`.
 pub fn subscribe_command<'a>(alloc: Global) -> Result<Command<'a>, AllocError> {
     let about = "Subscribes, and prints the messages that arrive";
-    let command = common(alloc, "mqtt sub", about)?;
-    with_rows(command, alloc, &SUBSCRIBE)
+    command_of(alloc, "mqtt sub", about, &SUBSCRIBE)
 }

@@ -118,13 +118,21 @@ fn repeat_of(matches: &ArgMatches<'_>) -> u32
 // The options that `sub` does not have.
 #[derive(Drop)]
 struct Own<'a> {
+    topic: TopicName,
     payloads: Payloads<'a>,
     retain: bool,
     repeat: u32,
     delay: u64,
 }
 
-fn own_of<'a>(alloc: Global, matches: &ArgMatches<'a>) -> Result<Own<'a>, OptionFault>
+fn own_of<'a>(
+    alloc: Global,
+    matches: &ArgMatches<'a>,
+    common: &Common,
+) -> Result<Own<'a>, OptionFault>
+    ensures topic { IfOk result
+        (λ own. IsTopicOf (first_value (found_of matches.now) (codes "TOPIC"))
+        (option_map string_bytes common.now.address.topic) own.topic) }
     ensures payloads { IfOk result (λ own. ArePayloads (found_of matches.now) own.payloads) }
     ensures retain { IfOk result
         (λ own. IsFlag (one_text (found_of matches.now) (codes "RETAIN")) own.retain) }
@@ -133,9 +141,11 @@ fn own_of<'a>(alloc: Global, matches: &ArgMatches<'a>) -> Result<Own<'a>, Option
     ensures delay { IfOk result
         (λ own. IsDelay (first_value (found_of matches.now) (codes "DELAY")) own.delay) }
 {
-    let payloads = payloads_in(alloc, matches)?;
     let delay = duration_of(alloc, matches, "DELAY", "--delay")?;
+    let topic = topic_of(alloc, matches, common)?;
+    let payloads = payloads_in(alloc, matches)?;
     Ok(Own {
+        topic,
         payloads,
         retain: flag_of(matches, "RETAIN"),
         repeat: repeat_of(matches),
@@ -143,42 +153,42 @@ fn own_of<'a>(alloc: Global, matches: &ArgMatches<'a>) -> Result<Own<'a>, Option
     })
 }
 
-// The arguments with these options of both commands.
-fn with_common<'a>(
-    alloc: Global,
-    matches: &ArgMatches<'a>,
-    common: Common,
-) -> Result<PublishWords<'a>, OptionFault>
-    requires { IsCommon (found_of matches.now) common }
-    ensures { IfOk result (IsPublish (found_of matches.now)) }
-{
-    let topic = topic_of(alloc, matches, &common)?;
-    let Own {
-        payloads,
-        retain,
-        repeat,
-        delay,
-    } = own_of(alloc, matches)?;
-    Ok(PublishWords {
-        common,
-        topic,
-        payloads,
-        retain,
-        repeat,
-        delay,
-    })
-}
-
 // The arguments that the parser matched.
 fn matched<'a>(
     alloc: Global,
     matches: &ArgMatches<'a>,
-    defaults: Defaults,
+    defaults: &Defaults,
 ) -> Result<PublishWords<'a>, OptionFault>
     ensures { IfOk result (IsPublish (found_of matches.now)) }
 {
     let common = common_of(alloc, matches, defaults)?;
-    with_common(alloc, matches, common)
+    match own_of(alloc, matches, &common) {
+        Ok(own) => Ok(PublishWords {
+            common,
+            topic: own.topic,
+            payloads: own.payloads,
+            retain: own.retain,
+            repeat: own.repeat,
+            delay: own.delay,
+        }),
+        Err(fault) => {
+            drop(common);
+            Err(fault)
+        }
+    }
+}
+
+// Reads the arguments over these defaults.
+fn read_words<'a>(
+    alloc: Global,
+    words: &'a [&'a str],
+    defaults: &Defaults,
+) -> Result<PublishWords<'a>, OptionFault>
+    ensures { IfOk result (λ own. (given : Found) × IsPublish given own) }
+{
+    let command = publish_command(alloc)?.no_binary_name(true);
+    let matches = command.try_get_matches_from(words)?;
+    matched(alloc, &matches, defaults)
 }
 
 /// Reads the arguments of `mqtt pub`, without the name of the program and of the command.
@@ -189,13 +199,7 @@ pub fn publish_words<'a>(
 ) -> Result<PublishWords<'a>, OptionFault>
     ensures { IfOk result (λ own. (given : Found) × IsPublish given own) }
 {
-    let command = publish_command(alloc)?.no_binary_name(true);
-    let matches = match command.try_get_matches_from(words) {
-        Ok(matches) => matches,
-        Err(error) => {
-            drop(defaults);
-            return Err(OptionFault::from(error));
-        }
-    };
-    matched(alloc, &matches, defaults)
+    let read = read_words(alloc, words, &defaults);
+    drop(defaults);
+    read
 }

@@ -9,7 +9,7 @@ use crate::address::Defaults;
 use crate::common::{Common, common_of};
 use crate::fault::OptionFault;
 use crate::grammar::subscribe_command;
-use crate::values::{all_of, filter_of, filters_of, flag_of, said};
+use crate::values::{add_filter, filters_at, flag_of, said};
 use clap::ArgMatches;
 use mq_format::{Format, FormatFault, Style};
 use mq_topic::TopicFilter;
@@ -80,7 +80,7 @@ fn printed_of(alloc: Global, matches: &ArgMatches<'_>) -> Result<(Style, bool), 
     Ok((style, !bare))
 }
 
-// The filters of `-t`, or the one of `-L`.
+// The filters of `-t`, and then the one of `-L`.
 fn topics_of(
     alloc: Global,
     matches: &ArgMatches<'_>,
@@ -90,14 +90,9 @@ fn topics_of(
         ≡ filters_of (texts_of (found_of matches.now) (codes "TOPIC"))
         (option_map string_bytes common.now.address.topic)) }
 {
-    let mut filters = filters_of(alloc, "-t", all_of(alloc, matches, "TOPIC")?.as_slice())?;
+    let mut filters = filters_at(alloc, matches, "TOPIC", "-t")?;
     if let Some(text) = &common.address.topic {
-        if filters
-            .push(filter_of(alloc, "-L", text.as_str())?)
-            .is_err()
-        {
-            return Err(OptionFault::Memory);
-        }
+        add_filter(alloc, &mut filters, "-L", text.as_str())?;
     }
     Ok(filters)
 }
@@ -119,8 +114,7 @@ fn filters_in(
         both.filters.items both.given_up.items) }
 {
     let filters = topics_of(alloc, matches, common)?;
-    let texts = all_of(alloc, matches, "GIVEN_UP")?;
-    let given_up = filters_of(alloc, "-U", texts.as_slice())?;
+    let given_up = filters_at(alloc, matches, "GIVEN_UP", "-U")?;
     if filters.is_empty() && given_up.is_empty() {
         return Err(said(alloc, "there is no topic to subscribe to: give -t FILTER"));
     }
@@ -141,15 +135,6 @@ fn retained_of(alloc: Global, matches: &ArgMatches<'_>) -> Result<(bool, bool), 
     Ok((skips_retained, only_retained))
 }
 
-// The filters of `-T`.
-fn excluded_of(alloc: Global, matches: &ArgMatches<'_>) -> Result<Vec<TopicFilter>, OptionFault>
-    ensures { IfOk result
-        (λ filters. filters.items ≡ texts_of (found_of matches.now) (codes "EXCLUDED")) }
-{
-    let texts = all_of(alloc, matches, "EXCLUDED")?;
-    filters_of(alloc, "-T", texts.as_slice())
-}
-
 // The number of `-C`.
 fn count_of(matches: &ArgMatches<'_>) -> Option<u64>
     ensures { IsNumber 64 (one_text (found_of matches.now) (codes "COUNT")) result }
@@ -157,9 +142,10 @@ fn count_of(matches: &ArgMatches<'_>) -> Option<u64>
     matches.get_one("COUNT")
 }
 
-// The options about messages, besides the topics to subscribe to.
+// The options that `pub` does not have.
 #[derive(Drop)]
 struct Own {
+    filters: Filters,
     excluded: Vec<TopicFilter>,
     skips_retained: bool,
     only_retained: bool,
@@ -167,7 +153,10 @@ struct Own {
     has_line_end: bool,
 }
 
-fn own_of(alloc: Global, matches: &ArgMatches<'_>) -> Result<Own, OptionFault>
+fn own_of(alloc: Global, matches: &ArgMatches<'_>, common: &Common) -> Result<Own, OptionFault>
+    ensures filters { IfOk result (λ own. AreFilters (found_of matches.now)
+        (option_map string_bytes common.now.address.topic)
+        own.filters.filters.items own.filters.given_up.items) }
     ensures excluded { IfOk result
         (λ own. own.excluded.items ≡ texts_of (found_of matches.now) (codes "EXCLUDED")) }
     ensures retained { IfOk result
@@ -176,43 +165,14 @@ fn own_of(alloc: Global, matches: &ArgMatches<'_>) -> Result<Own, OptionFault>
         (λ own. IsPrinted (found_of matches.now) own.style own.has_line_end) }
 {
     let (skips_retained, only_retained) = retained_of(alloc, matches)?;
-    let excluded = excluded_of(alloc, matches)?;
+    let filters = filters_in(alloc, matches, common)?;
+    let excluded = filters_at(alloc, matches, "EXCLUDED", "-T")?;
     let (style, has_line_end) = printed_of(alloc, matches)?;
     Ok(Own {
-        excluded,
-        skips_retained,
-        only_retained,
-        style,
-        has_line_end,
-    })
-}
-
-// The arguments with these options of both commands.
-fn with_common(
-    alloc: Global,
-    matches: &ArgMatches<'_>,
-    common: Common,
-) -> Result<SubscribeWords, OptionFault>
-    requires { IsCommon (found_of matches.now) common }
-    ensures { IfOk result (IsSubscribe (found_of matches.now)) }
-{
-    let Filters { filters, given_up } = filters_in(alloc, matches, &common)?;
-    let Own {
-        excluded,
-        skips_retained,
-        only_retained,
-        style,
-        has_line_end,
-    } = own_of(alloc, matches)?;
-    Ok(SubscribeWords {
-        common,
         filters,
-        given_up,
         excluded,
-        count: count_of(matches),
         skips_retained,
         only_retained,
-        ends_when_granted: flag_of(matches, "GRANTED"),
         style,
         has_line_end,
     })
@@ -222,12 +182,42 @@ fn with_common(
 fn matched(
     alloc: Global,
     matches: &ArgMatches<'_>,
-    defaults: Defaults,
+    defaults: &Defaults,
 ) -> Result<SubscribeWords, OptionFault>
     ensures { IfOk result (IsSubscribe (found_of matches.now)) }
 {
     let common = common_of(alloc, matches, defaults)?;
-    with_common(alloc, matches, common)
+    match own_of(alloc, matches, &common) {
+        Ok(own) => Ok(SubscribeWords {
+            common,
+            filters: own.filters.filters,
+            given_up: own.filters.given_up,
+            excluded: own.excluded,
+            count: count_of(matches),
+            skips_retained: own.skips_retained,
+            only_retained: own.only_retained,
+            ends_when_granted: flag_of(matches, "GRANTED"),
+            style: own.style,
+            has_line_end: own.has_line_end,
+        }),
+        Err(fault) => {
+            drop(common);
+            Err(fault)
+        }
+    }
+}
+
+// Reads the arguments over these defaults.
+fn read_words(
+    alloc: Global,
+    words: &[&str],
+    defaults: &Defaults,
+) -> Result<SubscribeWords, OptionFault>
+    ensures { IfOk result (λ own. (given : Found) × IsSubscribe given own) }
+{
+    let command = subscribe_command(alloc)?.no_binary_name(true);
+    let matches = command.try_get_matches_from(words)?;
+    matched(alloc, &matches, defaults)
 }
 
 /// Reads the arguments of `mqtt sub`, without the name of the program and of the command.
@@ -238,13 +228,7 @@ pub fn subscribe_words(
 ) -> Result<SubscribeWords, OptionFault>
     ensures { IfOk result (λ own. (given : Found) × IsSubscribe given own) }
 {
-    let command = subscribe_command(alloc)?.no_binary_name(true);
-    let matches = match command.try_get_matches_from(words) {
-        Ok(matches) => matches,
-        Err(error) => {
-            drop(defaults);
-            return Err(OptionFault::from(error));
-        }
-    };
-    matched(alloc, &matches, defaults)
+    let read = read_words(alloc, words, &defaults);
+    drop(defaults);
+    read
 }

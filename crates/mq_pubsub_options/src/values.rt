@@ -1,6 +1,6 @@
 //! Values of options.
 
-ghost use Rattle.std.specs.Prelude.{◌≡◌, map, option_map, string_bytes, IfOk};
+ghost use Rattle.std.specs.Prelude.{◌≡◌, ◌++◌, ◌∷◌, [], map, option_map, string_bytes, IfOk, OnOk};
 ghost use Rattle.clap.specs.Words.{first_value, found_of, one_text};
 ghost use Rattle.mq_pubsub_options.specs.Options.{IsFlag, IsQuality, IsTime, texts_of};
 
@@ -114,8 +114,8 @@ pub(crate) fn name_of(alloc: Global, option: &str, text: &str) -> Result<TopicNa
     }
 }
 
-/// The topic filter of an option.
-pub(crate) fn filter_of(alloc: Global, option: &str, text: &str) -> Result<TopicFilter, OptionFault>
+// The topic filter of an option.
+fn filter_of(alloc: Global, option: &str, text: &str) -> Result<TopicFilter, OptionFault>
     ensures { IfOk result (λ filter. filter ≡ text.now) }
 {
     match TopicFilter::parse(alloc, text) {
@@ -124,22 +124,44 @@ pub(crate) fn filter_of(alloc: Global, option: &str, text: &str) -> Result<Topic
     }
 }
 
-/// The topic filters of an option.
-pub(crate) fn filters_of(
+/// Adds the topic filter of an option to a list.
+pub(crate) fn add_filter(
     alloc: Global,
+    filters: &mut Vec<TopicFilter>,
     option: &str,
-    texts: &[&str],
-) -> Result<Vec<TopicFilter>, OptionFault>
+    text: &str,
+) -> Result<(), OptionFault>
+    ensures { OnOk result (filters.new.items ≡ filters.old.items ++ text.now ∷ []) }
+{
+    match filters.push(filter_of(alloc, option, text)?) {
+        Ok(()) => Ok(()),
+        Err(_) => Err(OptionFault::Memory),
+    }
+}
+
+// The topic filters of an option.
+fn filters_of(alloc: Global, option: &str, texts: &[&str]) -> Result<Vec<TopicFilter>, OptionFault>
     ensures { IfOk result (λ filters. filters.items ≡ map (λ text. text.now) texts.now) }
 {
     let mut filters = Vec::new(alloc);
     for text in texts {
-        let filter = filter_of(alloc, option, text)?;
-        if filters.push(filter).is_err() {
-            return Err(OptionFault::Memory);
-        }
+        add_filter(alloc, &mut filters, option, text)?;
     }
     Ok(filters)
+}
+
+/// The topic filters of the option that has this name in the code.
+pub(crate) fn filters_at(
+    alloc: Global,
+    matches: &ArgMatches<'_>,
+    id: &str,
+    option: &str,
+) -> Result<Vec<TopicFilter>, OptionFault>
+    ensures { IfOk result
+        (λ filters. filters.items ≡ texts_of (found_of matches.now) id.now) }
+{
+    let texts = all_of(alloc, matches, id)?;
+    filters_of(alloc, option, texts.as_slice())
 }
 
 /// An error of a sentence.
