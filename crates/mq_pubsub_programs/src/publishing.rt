@@ -79,9 +79,32 @@ where
     let mut feed = feed_of(rt, alloc, words, supply, &watch, start, is_watched);
     let ended = publish_with(alloc, setup, words, session, &mut link, &mut feed);
     feed.end_progress();
+    drop(feed);
     let outcome = ended?;
     let work = Work::Published(outcome.tally, words.common.qos);
     Ok(link.report("pub", &words.common, name_of(session), outcome.end, work))
+}
+
+// Publishes as a client with this configuration.
+fn publish_of<R>(
+    rt: &R,
+    alloc: Global,
+    words: &PublishWords<'_>,
+    session: &Option<Session<'_, R>>,
+    setup: &Setup,
+    is_watched: bool,
+) -> Result<u8, Fault>
+where
+    R: Net + Clock + Files<File = File> + Input + Eprint,
+    ensures { IfOk result (λ status. (end : Result ⊤ Failure) × (status ≡ status_of end)
+        × OnOk end (Delivers words.now)) }
+{
+    let supply = supply_of(rt, alloc, words)?;
+    let Ok(start) = Instant::now(rt) else {
+        drop(supply);
+        return Err(no_clock(alloc));
+    };
+    publish_from(rt, alloc, words, session, setup, supply, start, is_watched)
 }
 
 // Publishes as a client with this identifier.
@@ -99,13 +122,9 @@ where
         × OnOk end (Delivers words.now)) }
 {
     let setup = setup_of(rt, alloc, &words.common, id)?;
-    let supply = supply_of(rt, alloc, words)?;
-    let Ok(start) = Instant::now(rt) else {
-        drop(setup);
-        drop(supply);
-        return Err(no_clock(alloc));
-    };
-    publish_from(rt, alloc, words, session, &setup, supply, start, is_watched)
+    let status = publish_of(rt, alloc, words, session, &setup, is_watched);
+    drop(setup);
+    status
 }
 
 // Publishes as the client of the options or of the session.

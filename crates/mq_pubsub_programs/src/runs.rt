@@ -90,7 +90,13 @@ fn publish_plain<S: Stream + Drop, C: Clock + Drop, N: Network<S, C>, M: Source>
         });
     }
     let client = setup.client(alloc)?;
-    let Published { tally, end, .. } = publish(client, NoSaver, network, source, plan.options);
+    let Published {
+        client,
+        tally,
+        end,
+        ..
+    } = publish(client, NoSaver, network, source, plan.options);
+    drop(client);
     if plan.ends_with_run && end.is_ok() {
         // All messages are acknowledged, so that a failure here changes nothing for the user.
         let _ = discard(alloc, setup, network, plan.options.retry);
@@ -209,8 +215,52 @@ pub(crate) fn publish_with<
     }
 }
 
-/// Subscribes with a session file or without one.
+// Subscribes without a session file.
 #[tactic(auto, using(crate::proofs::Deliveries::on_ended))]
+fn subscribe_plain<S: Stream + Drop, C: Clock + Drop, N: Network<S, C>, P: Printer>(
+    alloc: Global,
+    setup: &Setup,
+    network: &mut N,
+    options: &SubscribeOptions<'_>,
+    printer: &mut P,
+) -> Result<Result<(), RunError>, Fault>
+    ensures { IfOk result (λ end. OnOk end
+        (ComesToEnd options.now (P.shown printer.old) (P.shown printer.new))) }
+{
+    let client = setup.client(alloc)?;
+    let done = subscribe(alloc, setup, client, NoSaver, network, options, printer);
+    Ok(done.end)
+}
+
+// Subscribes with the session in a file.
+#[tactic(auto, using(crate::proofs::Deliveries::on_ended))]
+fn subscribe_kept<
+    R: Files<File = File>,
+    S: Stream + Drop,
+    C: Clock + Drop,
+    N: Network<S, C>,
+    P: Printer,
+>(
+    alloc: Global,
+    setup: &Setup,
+    session: &Session<'_, R>,
+    network: &mut N,
+    options: &SubscribeOptions<'_>,
+    printer: &mut P,
+) -> Result<Result<(), RunError>, Fault>
+    ensures { IfOk result (λ end. OnOk end
+        (ComesToEnd options.now (P.shown printer.old) (P.shown printer.new))) }
+{
+    let client = session.client(setup)?;
+    let keeper = SavingTo {
+        alloc,
+        store: session.file(),
+    };
+    let done = subscribe(alloc, setup, client, keeper, network, options, printer);
+    Ok(done.end)
+}
+
+/// Subscribes with a session file or without one.
 pub(crate) fn subscribe_with<
     R: Files<File = File>,
     S: Stream + Drop,
@@ -229,19 +279,7 @@ pub(crate) fn subscribe_with<
         (ComesToEnd options.now (P.shown printer.old) (P.shown printer.new))) }
 {
     match session {
-        Some(session) => {
-            let client = session.client(setup)?;
-            let keeper = SavingTo {
-                alloc,
-                store: session.file(),
-            };
-            let done = subscribe(alloc, setup, client, keeper, network, options, printer);
-            Ok(done.end)
-        }
-        None => {
-            let client = setup.client(alloc)?;
-            let done = subscribe(alloc, setup, client, NoSaver, network, options, printer);
-            Ok(done.end)
-        }
+        Some(session) => subscribe_kept(alloc, setup, session, network, options, printer),
+        None => subscribe_plain(alloc, setup, network, options, printer),
     }
 }

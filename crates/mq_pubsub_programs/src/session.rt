@@ -7,7 +7,7 @@ use mq_end::ClientEnd;
 use mq_flow::{LoadError, Saved};
 use mq_pubsub::Setup;
 use mq_wire::Text;
-use std::alloc::Global;
+use std::alloc::{AllocError, Global};
 use std::fs::File;
 use std::io::ErrorKind;
 use std::rt::Files;
@@ -38,6 +38,14 @@ fn unmarked(alloc: Global, bytes: Vec<u8>) -> Result<(Vec<u8>, bool), Fault> {
     match bytes.as_slice() {
         [b'L', b'O', b'S', b'T', form @ ..] => Ok((form.to_vec(alloc)?, true)),
         _ => Ok((bytes, false)),
+    }
+}
+
+// A copy of an identifier, if it is there.
+fn copy_of(id: &Option<Text>) -> Result<Option<Text>, AllocError> {
+    match id {
+        Some(id) => Ok(Some(id.clone()?)),
+        None => Ok(None),
     }
 }
 
@@ -115,15 +123,16 @@ impl<'a, R: Files<File = File>> Session<'a, R> {
 
     /// The identifier of the client that the session belongs to.
     pub(crate) fn client_id(&self) -> Result<Option<Text>, Fault> {
-        match &self.form {
-            Some(form) => match Saved::load(self.alloc, form.as_slice()) {
-                Ok(saved) => Ok(match &saved.client {
-                    Some(id) => Some(id.clone()?),
-                    None => None,
-                }),
-                Err(why) => Err(self.unloaded(why)),
-            },
-            None => Ok(None),
+        let Some(form) = &self.form else {
+            return Ok(None);
+        };
+        match Saved::load(self.alloc, form.as_slice()) {
+            Ok(saved) => {
+                let id = copy_of(&saved.client);
+                drop(saved);
+                Ok(id?)
+            }
+            Err(why) => Err(self.unloaded(why)),
         }
     }
 

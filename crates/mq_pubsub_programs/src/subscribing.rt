@@ -165,6 +165,29 @@ where
     Ok(link.report("sub", &words.common, name_of(session), end, work))
 }
 
+// Subscribes as a client with this configuration.
+fn subscribe_of<R>(
+    rt: &R,
+    alloc: Global,
+    words: &SubscribeWords,
+    session: &Option<Session<'_, R>>,
+    setup: &Setup,
+) -> Result<u8, Fault>
+where
+    R: Net + Clock + Files<File = File> + Print + Eprint,
+    ensures { IfOk result (λ status. (end : Result ⊤ Failure) × (status ≡ status_of end)
+        × OnOk end (Follows words.now)) }
+{
+    let wishes = wishes_of(alloc, words)?;
+    let Ok(start) = Instant::now(rt) else {
+        drop(wishes);
+        return Err(no_clock(alloc));
+    };
+    let status = subscribe_to(rt, alloc, words, session, setup, &wishes, start);
+    drop(wishes);
+    status
+}
+
 // Subscribes as a client with this identifier.
 fn subscribe_as<R>(
     rt: &R,
@@ -179,13 +202,9 @@ where
         × OnOk end (Follows words.now)) }
 {
     let setup = setup_of(rt, alloc, &words.common, id)?;
-    let wishes = wishes_of(alloc, words)?;
-    let Ok(start) = Instant::now(rt) else {
-        drop(setup);
-        drop(wishes);
-        return Err(no_clock(alloc));
-    };
-    subscribe_to(rt, alloc, words, session, &setup, &wishes, start)
+    let status = subscribe_of(rt, alloc, words, session, &setup);
+    drop(setup);
+    status
 }
 
 // Subscribes as the client of the options or of the session.
