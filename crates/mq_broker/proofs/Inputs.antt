@@ -1,5 +1,5 @@
 -- The requirements of a durable broker, from those of a broker of a loop.
-use Rattle.std.proofs.Common.{◌≡◌, true, false, List, [], ◌∷◌, ◌==◌, length, refl, arith}
+use Rattle.std.proofs.Common.{◌≡◌, true, List, [], ◌∷◌, ◌==◌, length, refl, arith}
 use Rattle.std.proofs.lemmas.Bool.Decides.{nat_tests}
 use Rattle.mq_record.specs.Encoding.{is_recorded}
 use Rattle.mq_route.specs.declared.event.HubEvent.{HubEvent}
