@@ -230,7 +230,7 @@ fn publish_next<S: Stream + Drop, C: Clock + Drop, K: SessionSaver, N: Network<S
 // The end of a run.
 fn end_of<K: SessionSaver>(
     sitting: Sitting<K>,
-    outbox: &Outbox,
+    outbox: Outbox,
     end: Result<(), RunError>,
 ) -> Published<K>
     ensures client { result.client ≡ sitting.client }
@@ -238,6 +238,7 @@ fn end_of<K: SessionSaver>(
     ensures end { result.end ≡ end }
 {
     let tally = outbox.tally(&sitting.client);
+    drop(outbox);
     Published {
         client: sitting.client,
         keeper: sitting.keeper,
@@ -284,8 +285,8 @@ pub fn publish<S: Stream + Drop, C: Clock + Drop, K: SessionSaver, N: Network<S,
             &mut redial,
         );
         if let Some(end) = redial.next(sitting.end, false, network) {
-            return end_of(sitting, &outbox, end);
+            return end_of(sitting, outbox, end);
         }
     }
-    end_of(sitting, &outbox, Err(RunError::Lost))
+    end_of(sitting, outbox, Err(RunError::Lost))
 }

@@ -10,7 +10,7 @@ use mq_pubsub::{Backoff, Retry, RunError};
 use mq_stream::{Clock, Stream};
 
 /// The connections of a run so far.
-#[derive(Clone, Copy, Debug, PartialEq, Eq)]
+#[derive(Clone, Copy)]
 pub(crate) struct Redial {
     pub(crate) retry: Retry,
     backoff: Backoff,

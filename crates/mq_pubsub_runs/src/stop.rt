@@ -8,7 +8,7 @@ use mq_pubsub::RunError;
 use std::alloc::AllocError;
 
 /// Why the work over a connection ends early.
-#[derive(Clone, Copy, Debug, PartialEq, Eq)]
+#[derive(Clone, Copy)]
 pub(crate) enum Stop {
     /// The connection or a request failed, or the time is over.
     Connection(RunError),

@@ -77,8 +77,11 @@ fn read<S: Stream, C: Clock, K: SessionSaver, P: Printer>(
     let happenings = progress.happenings.as_slice();
     let output = peer.client().output();
     let ends = options.ends_when_granted;
-    match inbox.take_all(&options.choice, ends, happenings, output, printer) {
-        Ok(()) => Ok(progress.closed),
+    let taken = inbox.take_all(&options.choice, ends, happenings, output, printer);
+    let closed = progress.closed;
+    drop(progress);
+    match taken {
+        Ok(()) => Ok(closed),
         Err(error) => Err(Stop::Application(error)),
     }
 }
@@ -311,10 +314,16 @@ fn renew<K: SessionSaver, P: Printer>(
     };
     printer.notice(Notice::SessionLost);
     inbox.is_granted = false;
+    let Sitting {
+        client: lost,
+        keeper,
+        end,
+    } = sitting;
+    drop(lost);
     Sitting {
         client,
-        keeper: sitting.keeper,
-        end: sitting.end,
+        keeper,
+        end,
     }
 }
 

@@ -13,6 +13,6 @@ returns-in-Ok-clause-ok g c =
     let shown = c.in-Ok.ensures in
     watched_read _ _ _ _ _ _ _ c.in_ok-progress.progress.happenings (option_to_list c.in_ok-progress.progress.closed) shown.0 c.in_ok-progress.ensures.went c.hear.ensures.silent (rw c.as_slice-happenings.ensures at shown.1) shown.2
 
-pub returns-clause-err : goal.returns-clause-err
-returns-clause-err g c =
+pub returns-in-Err-clause-err : goal.returns-in-Err-clause-err
+returns-in-Err-clause-err g c =
     unprinted _ _ _ _ _ c.in_ok-progress.progress.happenings (option_to_list c.in_ok-progress.progress.closed) c.in_ok-progress.ensures.went c.hear.ensures.silent
