@@ -1,5 +1,5 @@
 -- What a run of `mqtt pub` did, and its exit status.
-use Rattle.std.proofs.Common.{◌≡◌, ◌≢◌, ◌≤◌, ℕ, Bool, true, false, List, [], ◌∷◌, ◌++◌, map, Option, Some, None, Result, Ok, Err, OnOk, inl, inr, refl, sym, ap, subst, ◌∙◌, append-nil, arith}
+use Rattle.std.proofs.Common.{◌≡◌, ◌≢◌, ◌≤◌, ℕ, Bool, true, List, [], ◌++◌, map, Option, Result, Ok, Err, OnOk, inl, inr, refl, sym, ap, subst, ◌∙◌, append-nil, arith}
 use Rattle.std.specs.Bool.{⊤}
 use Rattle.std.proofs.lemmas.Bool.{false≢true}
 use Rattle.mq_topic.specs.declared.qos.Qos.{Qos}
@@ -27,7 +27,7 @@ use Rattle.mq_pubsub_options.specs.declared.subscribing.SubscribeWords.{Subscrib
 use Rattle.mq_pubsub_runs.specs.Posting.{AllPosted, StartsWith}
 use Rattle.mq_pubsub_runs.specs.Watching.{Watched, first_inbox}
 use Rattle.mq_pubsub_programs.specs.Following.{ComesToEnd, Follows, IsRun}
-use Rattle.mq_pubsub_programs.specs.Feeding.{IsUsedUp, coming_of, coming_payloads, message_of, rounds_of}
+use Rattle.mq_pubsub_programs.specs.Feeding.{IsUsedUp, coming_of, coming_payloads, message_of}
 use Rattle.mq_pubsub_programs.specs.Status.{IsStatus, closed_status, error_status, fault_status, refusal_status, status_of}
 
 -- the lines of standard input

@@ -1,5 +1,5 @@
 -- Payloads that are taken round by round.
-use Rattle.std.proofs.Common.{◌≡◌, ◌∙◌, ◌≢◌, arith, ℕ, ◌+◌, ◌-◌, ◌<◌, ◌≤◌, zero, suc, List, [], ◌∷◌, ◌++◌, length, drop, get_or, ap, sym, refl, subst}
+use Rattle.std.proofs.Common.{◌≡◌, ◌∙◌, ◌≢◌, arith, ℕ, ◌+◌, ◌-◌, ◌<◌, ◌≤◌, zero, suc, List, [], ◌∷◌, ◌++◌, length, drop, get_or, ap, sym, refl}
 use Rattle.std.proofs.lemmas.List.{drop-append-le, drop_all, drop_at, drop_more}
 use Rattle.mq_pubsub_programs.specs.Feeding.{rounds_of}
 

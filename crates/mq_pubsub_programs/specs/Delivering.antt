@@ -1,5 +1,5 @@
 -- What a run of `mqtt pub` did if its exit status is 0.
-use Rattle.std.specs.Prelude.{◌≡◌, ◌≢◌, ⊤, ℕ, Bool, true, false, List, [], ◌∷◌, map, Option, Some}
+use Rattle.std.specs.Prelude.{◌≡◌, ◌≢◌, ⊤, ℕ, Bool, true, false, List, [], ◌∷◌, map, Option}
 use Rattle.mq_packet.specs.declared.message.Message.{Message}
 use Rattle.mq_client.specs.Course.{IsIdle, Leaves, Moment}
 use Rattle.mq_pubsub_options.specs.declared.publishing.Payloads.{Payloads}

@@ -1,5 +1,5 @@
 -- What a run of `mqtt sub` did if its exit status is 0.
-use Rattle.std.specs.Prelude.{◌≡◌, ℕ, true, not, List, [], map, Option, is_some, option_map, unwrap_or}
+use Rattle.std.specs.Prelude.{◌≡◌, ℕ, true, not, List, [], map, Option, option_map, unwrap_or}
 use Rattle.mq_topic.specs.declared.qos.Qos.{Qos}
 use Rattle.mq_packet.specs.declared.message.Message.{Message}
 use Rattle.mq_packet.specs.declared.packet.Request.{Request}
