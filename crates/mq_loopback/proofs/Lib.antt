@@ -5,3 +5,4 @@ pub mod Unique
 pub mod Lines
 pub mod Collected
 pub mod Telling
+pub mod Runs

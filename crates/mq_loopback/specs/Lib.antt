@@ -4,3 +4,5 @@ pub mod Ordered
 pub mod Judged
 pub mod Printed
 pub mod Program
+pub mod Clients
+pub mod Barrier

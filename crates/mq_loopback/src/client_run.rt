@@ -1,7 +1,12 @@
 //! The actions of a client over its connection.
 
-ghost use Rattle.std.specs.Prelude.{◌≡◌, ◌≤◌, true, length, OnOk};
+ghost use Rattle.std.specs.Prelude.{◌≡◌, ◌≤◌, ◌++◌, true, length, IfOk, OnOk};
+ghost use Rattle.std.specs.List.{flat_map};
+ghost use Rattle.mq_flow.specs.Receiver.{none_received};
 ghost use Rattle.mq_end.specs.End.{is_up};
+ghost use Rattle.mq_client.specs.Collecting.{handed};
+ghost use Rattle.mq_client.specs.Publishing.{AskedAll, AskedMore};
+ghost use Rattle.mq_loopback.specs.Clients.{Collected, IsNewClient, Published, Receives, Subscribed, asks_of, message_of};
 
 use crate::client::{Collector, Publisher};
 use mq_client::{ClientError, CollectGoal, NoSaver, Peer, begin};
@@ -19,7 +24,9 @@ const MOST_PACKET: u32 = 1_048_576;
 const CAPACITY: u16 = 100;
 
 /// A client end of this identifier, which never needs to keep its connection alive (3.1.2.10).
-pub(crate) fn client_end(alloc: Global, name: &Text) -> Result<ClientEnd, AllocError> {
+pub(crate) fn client_end(alloc: Global, name: &Text) -> Result<ClientEnd, AllocError>
+    ensures { IfOk result (IsNewClient name.now) }
+{
     let config = ClientConfig {
         id: name.clone()?,
         keep_alive: 0,
@@ -33,7 +40,9 @@ pub(crate) fn client_end(alloc: Global, name: &Text) -> Result<ClientEnd, AllocE
 }
 
 // Appends the delivered messages to others.
-fn keep_handed(messages: &mut Vec<Message>, happenings: Vec<Happening>) -> Result<(), AllocError> {
+fn keep_handed(messages: &mut Vec<Message>, happenings: Vec<Happening>) -> Result<(), AllocError>
+    ensures { OnOk result (messages.new.items ≡ messages.old.items ++ flat_map handed happenings.items) }
+{
     for happening in happenings {
         if let Happening::Handed(message) = happening {
             messages.push(message)?;
@@ -49,7 +58,10 @@ pub(crate) fn subscribe<S: Stream, C: Clock>(
     peer: &mut Peer<S, C, NoSaver>,
     collector: &Collector,
     messages: &mut Vec<Message>,
-) -> Result<(), ClientError> {
+) -> Result<(), ClientError>
+    ensures { OnOk result
+        (Subscribed peer.old peer.new collector.now messages.old.items messages.new.items) }
+{
     let wish = CollectGoal {
         filter: &collector.filter,
         qos: collector.qos,
@@ -67,7 +79,9 @@ fn gather<S: Stream, C: Clock>(
     count: usize,
     messages: &mut Vec<Message>,
 ) -> Result<(), ClientError>
+    ensures receives { OnOk result (Receives peer.old peer.new messages.old.items messages.new.items) }
     ensures enough { OnOk result (count ≤ length messages.new.items) }
+    ensures released { OnOk result (peer.new.client.link.end.received ≡ none_received) }
     ensures up { OnOk result (is_up peer.new.client.link.end.state ≡ true) }
 {
     for _ in 0..u64::MAX {
@@ -88,14 +102,18 @@ pub(crate) fn collect<S: Stream, C: Clock>(
     collector: &Collector,
     messages: &mut Vec<Message>,
 ) -> Result<(), ClientError>
-    ensures { OnOk result (collector.now.count ≤ length messages.new.items) }
+    ensures collected { OnOk result
+        (Collected peer.old peer.new messages.old.items messages.new.items) }
+    ensures enough { OnOk result (collector.now.count ≤ length messages.new.items) }
 {
     gather(peer, collector.count as usize, messages)?;
     peer.leave()
 }
 
 // The message of a payload.
-fn message_of(publisher: &Publisher, payload: &Payload) -> Result<Message, AllocError> {
+fn message_of(publisher: &Publisher, payload: &Payload) -> Result<Message, AllocError>
+    ensures { IfOk result (λ message. message ≡ message_of publisher.now payload.now) }
+{
     Ok(Message {
         topic: publisher.topic.clone()?,
         payload: payload.clone()?,
@@ -109,7 +127,9 @@ fn publish_more<S: Stream, C: Clock>(
     peer: &mut Peer<S, C, NoSaver>,
     publisher: &Publisher,
     next: &mut usize,
-) -> Result<(), ClientError> {
+) -> Result<(), ClientError>
+    ensures { AskedMore peer.old peer.new (asks_of publisher.now) next.old next.new }
+{
     let payloads = publisher.payloads.as_slice();
     while *next < payloads.len() && peer.is_up() {
         let message = message_of(publisher, &payloads[*next])?;
@@ -126,7 +146,7 @@ fn publish_acknowledged<S: Stream, C: Clock>(
     peer: &mut Peer<S, C, NoSaver>,
     publisher: &Publisher,
 ) -> Result<(), ClientError>
-    ensures { OnOk result (is_up peer.new.client.link.end.state ≡ true) }
+    ensures { OnOk result (AskedAll peer.old peer.new (asks_of publisher.now)) }
 {
     let count = publisher.payloads.as_slice().len();
     let mut next = 0;
@@ -146,7 +166,9 @@ fn publish_acknowledged<S: Stream, C: Clock>(
 pub(crate) fn publish<S: Stream, C: Clock>(
     peer: &mut Peer<S, C, NoSaver>,
     publisher: &Publisher,
-) -> Result<(), ClientError> {
+) -> Result<(), ClientError>
+    ensures { OnOk result (Published peer.old peer.new publisher.now) }
+{
     peer.open(true)?;
     publish_acknowledged(peer, publisher)?;
     peer.leave()

@@ -8,7 +8,6 @@
 mod client;
 mod client_run;
 mod client_threads;
-mod idle_limit;
 mod laws;
 mod print;
 mod program;
@@ -20,7 +19,6 @@ mod verdict;
 
 pub use crate::client::{Client, Collector, Publisher, Role};
 pub use crate::client_threads::{ClientStart, ClientThreads};
-pub use crate::idle_limit::IdleLimited;
 pub use crate::laws::file_laws;
 pub use crate::print::write_played;
 pub use crate::program::{loopback, loopback_file, print_result, run};

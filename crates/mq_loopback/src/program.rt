@@ -1,8 +1,8 @@
 //! The program `loopback`.
 
-ghost use Rattle.std.specs.Prelude.{◌<◌, ◌≤◌, IfOk, length};
+ghost use Rattle.std.specs.Prelude.{◌<◌, ◌≤◌, IfOk, None, length};
 ghost use Rattle.mq_line.specs.Lines.{Prints};
-ghost use Rattle.mq_loopback.specs.Program.{Ends, IsInputRun, IsLoopback};
+ghost use Rattle.mq_loopback.specs.Program.{Ends, IsInputRun, IsLoopback, IsNoFile, IsRunDone};
 
 use crate::client::Client;
 use crate::print::{write_bad_line, write_play_end, write_played, write_unread};
@@ -29,7 +29,8 @@ pub fn print_result<W: Write>(
     played: RunResult,
     output: &mut W,
 ) -> io::Result<u8>
-    ensures { IfOk result (λ status. Prints (W.contents output.old) (W.contents output.new) (Ends clients.now status)) }
+    ensures { IfOk result (λ status. Prints (W.contents output.old) (W.contents output.new)
+        (Ends clients.now played status)) }
 {
     let RunResult {
         collected,
@@ -46,12 +47,14 @@ pub fn print_result<W: Write>(
 }
 
 // Runs a broker and these clients, and prints the result.
+#[tactic(auto, using(crate::proofs::Telling::not_played, crate::proofs::Telling::run_told))]
 fn run_clients<R, W>(rt: &R, alloc: Global, clients: &[Client], output: &mut W) -> io::Result<u8>
 where
     R: Net<Listener = TcpListener, Stream = TcpStream> + Threads + Wait + Clock + Sync,
     W: Write,
     requires { (0 < length clients.now) × (length clients.now ≤ 64) }
-    ensures { IfOk result (λ status. Prints (W.contents output.old) (W.contents output.new) (Ends clients.now status)) }
+    ensures { IfOk result (λ status. Prints (W.contents output.old) (W.contents output.new)
+        (IsRunDone clients.now status)) }
 {
     match play(rt, alloc, clients) {
         Ok(played) => print_result(alloc, clients, played, output),
@@ -74,12 +77,14 @@ where
 }
 
 /// The same, with the text that an input has.
+#[tactic(auto, using(crate::proofs::Telling::no_file_run, crate::proofs::Telling::text_run, crate::proofs::Telling::own_text, crate::proofs::Telling::unread))]
 pub fn loopback<R, I, W>(rt: &R, alloc: Global, input: &mut I, output: &mut W) -> io::Result<u8>
 where
     R: Net<Listener = TcpListener, Stream = TcpStream> + Threads + Wait + Clock + Sync,
     I: Read,
     W: Write,
-    ensures { IfOk result (λ status. Prints (W.contents output.old) (W.contents output.new) (IsInputRun status)) }
+    ensures { IfOk result (λ status. Prints (W.contents output.old) (W.contents output.new)
+        (IsInputRun (I.remaining input.old) status)) }
 {
     let mut bytes = Vec::new(alloc);
     if let Err(error) = input.read_to_end(&mut bytes) {
@@ -93,7 +98,8 @@ where
 
 // Writes why a file has no text, and returns the status.
 fn write_no_file<W: Write>(output: &mut W, error: &io::Error) -> io::Result<u8>
-    ensures { IfOk result (λ status. Prints (W.contents output.old) (W.contents output.new) (IsInputRun status)) }
+    ensures { IfOk result (λ status.
+        Prints (W.contents output.old) (W.contents output.new) (IsNoFile status)) }
 {
     match error.kind() {
         ErrorKind::OutOfMemory => write_end(output, ServeEnd::Memory),
@@ -102,11 +108,13 @@ fn write_no_file<W: Write>(output: &mut W, error: &io::Error) -> io::Result<u8>
 }
 
 /// The same, with the text of the file of this name.
+#[tactic(auto, using(crate::proofs::Telling::no_file_run))]
 pub fn loopback_file<R, W>(rt: &R, alloc: Global, name: &str, output: &mut W) -> io::Result<u8>
 where
     R: Net<Listener = TcpListener, Stream = TcpStream> + Files + Threads + Wait + Clock + Sync,
     W: Write,
-    ensures { IfOk result (λ status. Prints (W.contents output.old) (W.contents output.new) (IsInputRun status)) }
+    ensures { IfOk result (λ status. Prints (W.contents output.old) (W.contents output.new)
+        (IsInputRun None status)) }
 {
     match File::open(rt, name) {
         Ok(mut file) => loopback(rt, alloc, &mut file, output),

@@ -1,6 +1,9 @@
 //! A broker and the clients of a loopback file, in threads.
 
-ghost use Rattle.std.specs.Prelude.{◌≡◌, ◌<◌, ◌≤◌, length, vec_len, IfOk};
+ghost use Rattle.std.specs.Prelude.{◌≡◌, ◌<◌, ◌≤◌, Err, IfOk, IsOkAnd, None, Ok, OnOk, Some, length, map, vec_len};
+ghost use Rattle.mq_book.specs.Pages.{journal_of};
+ghost use Rattle.mq_client.specs.declared.error.ClientError.{ClientError};
+ghost use Rattle.mq_loopback.specs.Program.{IsPlayed};
 
 use crate::client::Client;
 use crate::client_threads::ClientThreads;
@@ -96,11 +99,12 @@ where
 fn open_rig<R>(rt: &R, alloc: Global, count: u16) -> io::Result<Rig>
 where
     R: Net<Listener = TcpListener, Stream = TcpStream>,
+    ensures { IfOk result (λ rig. vec_len rig.streams ≡ count) }
 {
     let listener = TcpListener::bind(rt, (Ipv4Addr::LOCALHOST, 0))?;
     let address = listener.local_addr()?;
     let mut streams = Vec::with_capacity(alloc, usize::from(count))?;
-    for _ in 0..count {
+    while streams.len() < usize::from(count) {
         streams.push(connect(rt, address)?)?;
     }
     Ok(Rig {
@@ -118,6 +122,7 @@ fn end_of(error: &io::Error) -> ServeEnd {
 }
 
 // Runs the workers and the clients in threads, and returns their results.
+#[tactic(auto, using(crate::proofs::Runs::play_done))]
 fn play_by<L: Ledger + Send + Sync + 'static, R>(
     rt: &R,
     alloc: Global,
@@ -132,6 +137,9 @@ where
     requires parts { blank.parts ≡ L.parts }
     requires each { blank.parts ≡ workers }
     requires some { (0 < workers) × (workers ≤ 64) }
+    requires clients { length clients.now ≡ workers }
+    requires streams { vec_len rig.streams ≡ workers }
+    ensures { IfOk result (IsPlayed clients.now) }
 {
     let start = match Instant::now(rt) {
         Ok(start) => start,
@@ -142,19 +150,44 @@ where
     let (hall, stations) = Server::<L>::open(rt, alloc, blank, workers, gate, start, records)?;
     let threads = ClientThreads::new(alloc, clients);
     let starts = threads.starts(streams)?;
-    let (served, collected) = run_both(rt, &hall, stations, &threads, starts);
-    ended(hall, served, collected_by(threads.into_fault(), collected))
+    let (served, outcomes) = run_both(rt, &hall, stations, &threads, starts);
+    let collected = collected_by(alloc, threads.into_fault(), outcomes);
+    ended(hall, served, collected)
 }
 
 // The messages that the clients collected, or the first fault.
 fn collected_by(
+    alloc: Global,
     fault: Option<ClientError>,
-    collected: Result<Vec<Vec<Message>>, AllocError>,
-) -> Result<Vec<Vec<Message>>, RunError> {
+    outcomes: Result<Vec<Option<Vec<Message>>>, AllocError>,
+) -> Result<Vec<Vec<Message>>, RunError>
+    ensures done { IfOk result (λ lists. IsOkAnd outcomes (λ all. all.items ≡ map Some lists.items)) }
+    ensures none { OnOk result (fault ≡ None) }
+    ensures fault { (why : ClientError) → fault ≡ Some why → result ≡ Err (RunError.Client why) }
+{
     match fault {
         Some(fault) => Err(RunError::Client(fault)),
-        None => Ok(collected?),
+        None => all_collected(alloc, outcomes?),
     }
+}
+
+// The messages of all clients, each of which was done.
+fn all_collected(
+    alloc: Global,
+    outcomes: Vec<Option<Vec<Message>>>,
+) -> Result<Vec<Vec<Message>>, RunError>
+    ensures { IfOk result (λ lists. outcomes.items ≡ map Some lists.items) }
+{
+    let mut lists = Vec::with_capacity(alloc, outcomes.len())?;
+    for outcome in outcomes {
+        let Some(messages) = outcome else {
+            return Err(RunError::Client(ClientError::Lost));
+        };
+        let Ok(()) = lists.push(messages) else {
+            return Err(RunError::Broker(ServeEnd::Memory));
+        };
+    }
+    Ok(lists)
 }
 
 // The results of a broker and of clients that are done, or the reason why there are none.
@@ -165,6 +198,7 @@ fn ended<L: Ledger>(
 ) -> Result<RunResult, RunError>
     requires all { IfOk served (λ s. vec_len s ≡ L.parts) }
     requires some { 0 < L.parts }
+    ensures { IfOk result (λ run. (collected ≡ Ok run.collected) × (vec_len run.receipts ≡ L.parts)) }
 {
     let closed = hall.close(served?)?;
     left(closed, collected)
@@ -174,7 +208,11 @@ fn ended<L: Ledger>(
 fn left<L: Ledger>(
     closed: FinishedServer<L>,
     collected: Result<Vec<Vec<Message>>, RunError>,
-) -> Result<RunResult, RunError> {
+) -> Result<RunResult, RunError>
+    ensures collected { IfOk result (λ run. collected ≡ Ok run.collected) }
+    ensures receipts { IfOk result (λ run. run.receipts ≡ closed.receipts) }
+    ensures journal { IfOk result (λ run. run.journal ≡ journal_of closed.book) }
+{
     let FinishedServer { mut book, receipts } = closed;
     match collected {
         Ok(collected) => Ok(RunResult {
@@ -192,6 +230,7 @@ pub fn play<R>(rt: &R, alloc: Global, clients: &[Client]) -> Result<RunResult, R
 where
     R: Net<Listener = TcpListener, Stream = TcpStream> + Threads + Wait + Clock + Sync,
     requires { (0 < length clients.now) × (length clients.now ≤ 64) }
+    ensures { IfOk result (IsPlayed clients.now) }
 {
     let workers = clients.len() as u16;
     let rig = match open_rig(rt, alloc, workers) {

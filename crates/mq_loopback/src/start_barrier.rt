@@ -1,5 +1,8 @@
 //! When publishers start.
 
+ghost use Rattle.std.specs.Prelude.{◌≡◌, ◌↔◌, ◌-◌, IsTrue, None};
+ghost use Rattle.mq_loopback.specs.Barrier.{IsPending, first_fault};
+
 use mq_client::ClientError;
 use std::sync::{Condvar, Mutex, Wait};
 
@@ -11,18 +14,34 @@ struct Waiting {
 }
 
 impl Waiting {
+    // Waits for this number of collectors.
+    fn new(collectors: usize) -> Waiting
+        ensures { result ≡ record { left = collectors; fault = None } }
+    {
+        Waiting {
+            left: collectors,
+            fault: None,
+        }
+    }
+
     // Whether publishers are to wait on.
-    fn is_pending(&self) -> bool {
+    fn is_pending(&self) -> bool
+        ensures { IsTrue result ↔ IsPending self.now }
+    {
         self.left > 0 && self.fault.is_none()
     }
 
     // One collector more is subscribed.
-    fn count(&mut self) {
+    fn count(&mut self)
+        ensures { self.new ≡ record self.old { left = self.old.left - 1 } }
+    {
         self.left = self.left.saturating_sub(1);
     }
 
     // A client has a fault. The first one stays.
-    fn call_off(&mut self, fault: ClientError) {
+    fn call_off(&mut self, fault: ClientError)
+        ensures { self.new ≡ record self.old { fault = first_fault self.old.fault fault } }
+    {
         if self.fault.is_none() {
             self.fault = Some(fault);
         }
@@ -40,10 +59,7 @@ impl StartBarrier {
     /// A barrier for this many collectors.
     pub fn after(collectors: usize) -> StartBarrier {
         StartBarrier {
-            waiting: Mutex::new(Waiting {
-                left: collectors,
-                fault: None,
-            }),
+            waiting: Mutex::new(Waiting::new(collectors)),
             changed: Condvar::new(),
         }
     }

@@ -1,0 +1,13 @@
+-- The start of publishers.
+use Rattle.std.specs.Prelude.{◌≡◌, ◌<◌, Option, None, Some}
+use Rattle.mq_client.specs.declared.error.ClientError.{ClientError}
+use Rattle.mq_loopback.specs.declared.start_barrier.Waiting.{Waiting}
+
+-- publishers wait: some collector is not subscribed yet, and no client has a fault
+abbrev pub IsPending : Waiting → Type 0
+IsPending w = (0 < w.left) × (w.fault ≡ None)
+
+-- the first fault stays
+abbrev pub first_fault : Option ClientError → ClientError → Option ClientError
+first_fault None fault = Some fault
+first_fault (Some first) fault = Some first
