@@ -1,2 +1,5 @@
+mod Drawings
 mod Ends
+mod Passwords
 mod Runs
+mod Servings

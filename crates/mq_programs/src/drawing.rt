@@ -1,12 +1,15 @@
 //! The command `replay --svg`.
 
-ghost use Rattle.std.specs.Prelude.{◌≡◌, Some, false, IfOk};
+ghost use Rattle.std.specs.Prelude.{◌≡◌, Some, false, IfOk, IfSome};
 ghost use Rattle.mq_line.specs.Lines.{Prints};
 ghost use Rattle.mq_cli.specs.Status.{IsReplayDone};
 ghost use Rattle.mq_picture.specs.Image.{IsPicture};
+ghost use Rattle.mq_schedule.specs.Schedule.{IsSchedule, lines_of};
+ghost use Rattle.mq_programs.specs.Drawing.{IsDrawRun, IsImageSaved, IsSaved};
+ghost use Rattle.mq_programs.specs.Inputs.{input_of};
 
 use mq_cli::{Draw, Failure, Job, Source, perform, perform_opened};
-use mq_client::{SaveError, SessionFile, SystemDisk};
+use mq_client::{Disk, SaveError, SessionFile, SystemDisk};
 use mq_picture::{PictureFault, write_picture};
 use mq_schedule::{Schedule, ScheduleFault, read_schedule};
 use std::alloc::Global;
@@ -21,7 +24,10 @@ fn read_source<R: Files, I: Read>(
     alloc: Global,
     source: Source<'_>,
     input: &mut I,
-) -> io::Result<Vec<u8>> {
+) -> io::Result<Vec<u8>>
+    ensures { IfOk result (λ bytes. IfSome (input_of source.entry (I.remaining input.old))
+        (λ all. bytes.items ≡ all)) }
+{
     let mut bytes = Vec::new(alloc);
     match source {
         Source::File(name) => File::open(rt, name)?.read_to_end(&mut bytes)?,
@@ -45,7 +51,9 @@ fn replay_bytes<W: Write>(
 }
 
 // The schedule of a file with these bytes, if it is valid.
-fn schedule_of(alloc: Global, bytes: &[u8]) -> Result<Option<Schedule>, Failure> {
+fn schedule_of(alloc: Global, bytes: &[u8]) -> Result<Option<Schedule>, Failure>
+    ensures { IfOk result (λ found. IfSome found (IsSchedule (lines_of bytes.now))) }
+{
     let Ok(text) = str::from_utf8(bytes) else {
         return Ok(None);
     };
@@ -67,19 +75,18 @@ fn image_of(alloc: Global, schedule: &Schedule) -> Result<Vec<u8>, Failure>
     }
 }
 
-// Draws the schedule of a file with these bytes. Returns the status.
-fn draw_bytes<R: Files, W: Write>(
-    rt: &R,
+// Draws a schedule and replaces a file by the image. Returns the status.
+fn draw_schedule<D: Disk, W: Write>(
     alloc: Global,
-    bytes: &[u8],
-    name: &str,
+    schedule: &Schedule,
+    file: &mut SessionFile<'_, D>,
     output: &mut W,
-) -> Result<u8, Failure> {
-    let Some(schedule) = schedule_of(alloc, bytes)? else {
-        return Ok(0);
-    };
-    let image = image_of(alloc, &schedule)?;
-    match SessionFile::new(alloc, SystemDisk(rt), name).save(image) {
+) -> Result<u8, Failure>
+    ensures { IfOk result (λ status. Prints (W.contents output.old) (W.contents output.new)
+        (IsImageSaved schedule.now file.old file.new status)) }
+{
+    let image = image_of(alloc, schedule)?;
+    match file.save(image) {
         Ok(()) => Ok(0),
         Err(SaveError::Memory) => Err(Failure::Memory),
         Err(SaveError::Unwritten(_)) => {
@@ -87,6 +94,24 @@ fn draw_bytes<R: Files, W: Write>(
             Ok(1)
         }
     }
+}
+
+// Draws the schedule of a file with these bytes. Returns the status.
+fn draw_bytes<R: Files, W: Write>(
+    rt: &R,
+    alloc: Global,
+    bytes: &[u8],
+    name: &str,
+    output: &mut W,
+) -> Result<u8, Failure>
+    ensures { IfOk result (λ status.
+        Prints (W.contents output.old) (W.contents output.new) (IsSaved status)) }
+{
+    let Some(schedule) = schedule_of(alloc, bytes)? else {
+        return Ok(0);
+    };
+    let mut file = SessionFile::new(alloc, SystemDisk(rt), name);
+    draw_schedule(alloc, &schedule, &mut file, output)
 }
 
 /// Runs `replay --svg`: prints the replay like `replay`, and then replaces the file of the image if
@@ -97,7 +122,10 @@ pub fn run_draw<R: Files, I: Read, W: Write>(
     draw: Draw<'_>,
     input: &mut I,
     output: &mut W,
-) -> Result<u8, Failure> {
+) -> Result<u8, Failure>
+    ensures { IfOk result (λ status. Prints (W.contents output.old) (W.contents output.new)
+        (IsDrawRun draw.entry.source (I.remaining input.old) status)) }
+{
     let bytes = match read_source(rt, alloc, draw.source, input) {
         Ok(bytes) => bytes,
         Err(error) if error.kind() == ErrorKind::OutOfMemory => return Err(Failure::Memory),

@@ -1,5 +1,10 @@
 //! The command `loopback`.
 
+ghost use Rattle.std.specs.Prelude.{IfOk};
+ghost use Rattle.mq_line.specs.Lines.{Prints};
+ghost use Rattle.mq_loopback.specs.Program.{IsInputRun};
+ghost use Rattle.mq_programs.specs.Inputs.{input_of};
+
 use mq_cli::{Failure, Source};
 use mq_loopback::{loopback, loopback_file};
 use std::alloc::Global;
@@ -22,6 +27,8 @@ where
     R: Net<Listener = TcpListener, Stream = TcpStream> + Files + Threads + Wait + Clock + Sync,
     I: Read,
     W: Write,
+    ensures { IfOk result (λ status. Prints (W.contents output.old) (W.contents output.new)
+        (IsInputRun (input_of source.entry (I.remaining input.old)) status)) }
 {
     Ok(match source {
         Source::File(name) => loopback_file(rt, alloc, name, output)?,

@@ -1,6 +1,8 @@
 //! The command `serve`.
 
-ghost use Rattle.std.specs.Prelude.{◌≡◌, ◌<◌, ◌≤◌, IfSome};
+ghost use Rattle.std.specs.Prelude.{◌≡◌, ◌<◌, ◌≤◌, ◌⊎◌, Err, IfOk, IfSome};
+ghost use Rattle.mq_line.specs.Lines.{Prints};
+ghost use Rattle.mq_programs.specs.Serving.{IsServeCommand};
 
 use mq_cli::{Failure, Serve};
 use mq_serve::{ServeEnd, ServeOptions, serve, serve_on};
@@ -40,6 +42,9 @@ fn explain_end<E: Write>(errors: &mut E, port: u16, end: Option<ServeEnd>) {
 
 /// Runs the broker at the port of the arguments. Flushes its line as soon as it listens. `errors`
 /// gets a line that says why it ended early.
+///
+/// Error: `Words` unless there are 1 to 64 workers.
+#[tactic(auto, using(crate::proofs::Servings::no_workers, crate::proofs::Servings::ran))]
 pub fn run_serve<R, E, W>(
     rt: &R,
     alloc: Global,
@@ -51,6 +56,10 @@ where
     R: Net<Listener = TcpListener, Stream = TcpStream> + Threads + Wait + Clock + Sync,
     E: Write,
     W: Write,
+    ensures words { (words.now.workers ≡ 0) ⊎ (64 < words.now.workers)
+        → result ≡ Err Failure.Words }
+    ensures printed { IfOk result (λ status. Prints (W.contents output.old) (W.contents output.new)
+        (IsServeCommand words.now status)) }
 {
     let Some(options) = options_of(words) else {
         return Err(Failure::Words);
@@ -62,6 +71,9 @@ where
 }
 
 /// Runs the broker on a listener that exists already. Ignores the port of the arguments.
+///
+/// Error: `Words` unless there are 1 to 64 workers.
+#[tactic(auto, using(crate::proofs::Servings::no_workers, crate::proofs::Servings::ran))]
 pub fn run_serve_on<R, W>(
     rt: &R,
     alloc: Global,
@@ -72,6 +84,10 @@ pub fn run_serve_on<R, W>(
 where
     R: Net + Threads + Wait + Clock + Sync,
     W: Write,
+    ensures words { (words.now.workers ≡ 0) ⊎ (64 < words.now.workers)
+        → result ≡ Err Failure.Words }
+    ensures printed { IfOk result (λ status. Prints (W.contents output.old) (W.contents output.new)
+        (IsServeCommand words.now status)) }
 {
     let Some(options) = options_of(words) else {
         return Err(Failure::Words);
