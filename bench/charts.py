@@ -118,7 +118,7 @@ def main():
         {"C: tests": 0, "view": 1, "C: tests and copies": 2, "feed": 3},
     )
     brokers = draw(
-        "Brokers over 127.0.0.1: messages delivered a second (more is better)",
+        "Brokers over 127.0.0.1: messages of 16 B delivered a second (more is better)",
         [(f"{qos}, publishers to subscribers", data[qos]) for qos in ("QoS 0", "QoS 1", "QoS 2")],
         {"mqtt": 1, "mosquitto": 0},
     )
