@@ -2,7 +2,7 @@
 use Rattle.std.proofs.Common.{◌≡◌, ℕ, List, [], Option, Result, Ok, Err, refl, sym, subst, inl, inr}
 use Rattle.std.specs.Prelude.{IfOk, OnOk}
 use Rattle.std.specs.Io.KnownBytes.{Appends}
-use Rattle.mq_line.specs.Lines.{Prints}
+use Rattle.mq_packet.specs.Lines.{Prints}
 use Rattle.mq_loopback.specs.declared.client.Client.{Client}
 use Rattle.mq_loopback.specs.declared.rig.RunError.{RunError}
 use Rattle.mq_loopback.specs.Printed.{play_end_line, play_end_status, unread_line}

@@ -4,7 +4,7 @@ use Rattle.std.specs.Cmp.Lexicographic.{slice_cmp}
 use Rattle.std.specs.List.{flat_map}
 use Rattle.std.specs.List.Sorted.{IsPermutation, IsSorted}
 use Rattle.std.specs.Ordering.{nat_cmp}
-use Rattle.mq_line.specs.Lines.{escaped}
+use Rattle.mq_packet.specs.Lines.{escaped}
 use Rattle.mq_route.specs.Hub.{HubState}
 use Rattle.mq_serve.specs.declared.serve_end.ServeEnd.{ServeEnd}
 use Rattle.mq_serve.specs.declared.serve_end.ServeEnd.TheVariants.{Listen, Net, JournalFull, Refused, Memory}
