@@ -41,9 +41,7 @@ fn count(numbers: &mut BTreeMap<ClientKey, u64>, key: ClientKey)
     ensures { CountsOne key numbers.old.entries numbers.new.entries }
 {
     let number = amount(numbers, key).saturating_add(1);
-    match numbers.insert(key, number) {
-        Ok(_) | Err(_) => {}
-    }
+    let _ = numbers.insert(key, number);
 }
 
 impl Missed {

@@ -43,7 +43,7 @@ spaced_names commands = flat_map spaced_name commands
 -- ---- Commands
 
 -- A command as clap completes it, with options such as `--help`. If values of its options may begin
--- with `-`, clap does not say what it completes the command to.
+-- with `-`, clap does not name the completed command.
 abbrev pub Completes : Command → Shape → Type 0
 Completes command complete =
     is_buildable (app_of command) ≡ true → complete ≡ (built (app_of command)).top

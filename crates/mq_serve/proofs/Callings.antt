@@ -45,7 +45,7 @@ called_next test xs i d x r a b c low is tested passes before now =
     subst (Appends a c) (sym more) (Appends-trans a b c _ _ before now) in
     rw (add-one i) whole
 
--- the test r of the next worker is false, and nobody is called
+-- the test r of the next worker is false, and no worker is called
 pub skipped_next : {A : Type 0} (test : ℕ → A → Bool) (xs : List A) (i : ℕ) (d x : A) (r : Bool) (a b : Option (List ℕ)) → i < length xs → x ≡ get_or xs i d
     → r ≡ test i x → r ≡ false → Appends a b (numbers_from test 0 (take i xs)) → Appends a b (numbers_from test 0 (take (i + 1) xs))
 skipped_next test xs i d x r a b low is tested fails before =

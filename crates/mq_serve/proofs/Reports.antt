@@ -26,7 +26,7 @@ none_stopped (Some why) left failure none = absurd (cc none)
 pub first_stopped : (stopped : Option WorkEnd) (left : ℕ) (failure : ErrorKind) (why : WorkEnd) → stopped ≡ Some why → stop_of stopped left failure ≡ Some (end_of_work why)
 first_stopped stopped left failure why is = rw is refl
 
--- ---- what is printed
+-- ---- printed lines
 
 -- The end of a broker, with the status, the reported end and the printed text.
 abbrev pub IsReport : {N : Type 0} → (N → List (List ℕ)) → ℕ → Result N ServeEnd → Option ServeEnd → Option ServeEnd → ℕ → List ℕ → Type 0
