@@ -2,7 +2,7 @@
 use Rattle.std.specs.Prelude.{ℕ, List, ◌++◌, Option, codes}
 use Rattle.mq_packet.specs.declared.connack.RefusalCode.{RefusalCode}
 use Rattle.mq_route.specs.declared.close.HubClose.{HubClose}
-use Rattle.mq_line.specs.Lines.{escaped}
+use Rattle.mq_packet.specs.Lines.{escaped}
 use Rattle.mq_status.specs.Log.{close_text, refusal_text}
 use Rattle.mq_broker.specs.declared.log.LogLevel.{LogLevel}
 

@@ -11,7 +11,7 @@ use Rattle.mq_decode.specs.declared.fault.DecodeFault.{DecodeFault}
 use Rattle.mq_decode.specs.Limits.{Bounds}
 use Rattle.mq_decode.specs.Grammar.{Reading, Stream}
 use Rattle.mq_decode.proofs.Streams.{faulty_more, stream_join}
-use Rattle.mq_line.specs.Lines.{Prints}
+use Rattle.mq_packet.specs.Lines.{Prints}
 use Rattle.mq_cli.specs.declared.stream.StreamEnd.{StreamEnd}
 use Rattle.mq_cli.specs.declared.stream.StreamEnd.TheVariants.{Fault}
 use Rattle.mq_cli.specs.Printed.{end_lines, fault_line, packet_line, shown_lines}

@@ -5,7 +5,7 @@ use Rattle.std.specs.Io.KnownBytes.{Appends}
 use Rattle.mq_decode.specs.Limits.{Bounds}
 use Rattle.mq_cli.specs.declared.stream.Shown.{Shown}
 use Rattle.mq_cli.specs.Show.{Shows}
-use Rattle.mq_line.specs.Lines.{Prints}
+use Rattle.mq_packet.specs.Lines.{Prints}
 use Rattle.mq_cli.specs.Printed.{no_memory, shown_lines}
 use Rattle.mq_cli.specs.Status.{IsShowDone, IsTextReplayed, end_status, widest}
 use Rattle.mq_schedule.specs.declared.schedule.Schedule.{Schedule}

@@ -11,7 +11,7 @@ use Rattle.mq_cli.specs.declared.stream.StreamEnd.TheVariants.{Whole, Held, Faul
 use Rattle.mq_cli.specs.declared.count.PacketCount.{PacketCount}
 use Rattle.mq_cli.specs.declared.count.CountEnd.{CountEnd}
 use Rattle.mq_cli.specs.declared.count.CountEnd.TheVariants as ends
-use Rattle.mq_line.specs.Lines.{packet_text}
+use Rattle.mq_packet.specs.Lines.{packet_text}
 
 abbrev pub no_memory : List ℕ
 no_memory = codes "out of memory\n"

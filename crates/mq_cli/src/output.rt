@@ -5,7 +5,7 @@ ghost use Rattle.std.specs.Borrow.{Bor};
 ghost use Rattle.std.specs.List.{flat_map};
 ghost use Rattle.std.specs.Io.KnownBytes.{Appends};
 ghost use Rattle.mq_topic.specs.Matching.{is_match};
-ghost use Rattle.mq_line.specs.Lines.{Prints};
+ghost use Rattle.mq_packet.specs.Lines.{Prints};
 ghost use Rattle.mq_cli.specs.CommandLine.{job_source};
 ghost use Rattle.mq_cli.specs.Printed.{bad_hex, count_end_lines, count_lines, end_lines, fault_line, file_not_read, match_line, no_memory, packet_line, packets_line, shown_lines, topic_line};
 ghost use Rattle.mq_cli.specs.Status.{IsCheckDone, IsDone, IsMatchDone, IsShowDone, count_status, end_status, match_status, widest};
@@ -19,7 +19,6 @@ use crate::show::{ShowFault, shown};
 use crate::stream::{Shown, StreamEnd};
 use crate::streaming::show_stream;
 use mq_decode::{DecodeFault, Limits};
-use mq_line::Line;
 use mq_packet::Packet;
 use mq_topic::{TopicFault, TopicFilter, TopicName, matches};
 use std::alloc::Global;
@@ -96,7 +95,7 @@ pub(crate) fn write_lines<W: Write>(output: &mut W, packets: &[Packet]) -> io::R
         (flat_map packet_line packets.now)) }
 {
     for packet in packets {
-        writeln!(output, "{}", Line(packet))?;
+        writeln!(output, "{packet}")?;
     }
     Ok(())
 }

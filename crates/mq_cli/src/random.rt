@@ -3,7 +3,7 @@
 ghost use Rattle.std.specs.Prelude.{◌≡◌, ◌∷◌, [], ℕ, codes, decimal, IfOk, OnOk};
 ghost use Rattle.std.specs.List.{flat_map};
 ghost use Rattle.std.specs.Io.KnownBytes.{Appends};
-ghost use Rattle.mq_line.specs.Lines.{Prints};
+ghost use Rattle.mq_packet.specs.Lines.{Prints};
 ghost use Rattle.mq_world.specs.MadeUp.{made_event, made_qos, made_side, made_up};
 ghost use Rattle.mq_schedule.specs.declared.schedule.Step.TheVariants as steps;
 ghost use Rattle.mq_schedule.specs.Writing.{line_with, step_line};

@@ -2,7 +2,7 @@
 
 ghost use Rattle.std.specs.Prelude.{◌≡◌, IfOk, OnOk};
 ghost use Rattle.std.specs.Io.KnownBytes.{Appends};
-ghost use Rattle.mq_line.specs.Lines.{Prints};
+ghost use Rattle.mq_packet.specs.Lines.{Prints};
 ghost use Rattle.mq_cli.specs.Printed.{bad_line};
 ghost use Rattle.mq_cli.specs.Status.{IsReplayDone, IsTextReplayed};
 

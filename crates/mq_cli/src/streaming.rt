@@ -5,7 +5,7 @@ ghost use Rattle.std.specs.List.{flat_map};
 ghost use Rattle.std.specs.Io.KnownBytes.{Appends};
 ghost use Rattle.mq_packet.specs.declared.packet.Packet.{Packet};
 ghost use Rattle.mq_decode.specs.Grammar.{Reading};
-ghost use Rattle.mq_line.specs.Lines.{Prints};
+ghost use Rattle.mq_packet.specs.Lines.{Prints};
 ghost use Rattle.mq_cli.specs.Printed.{end_lines, packet_line};
 ghost use Rattle.mq_cli.specs.Status.{IsStreamShown, end_of_rest, end_status};
 ghost use Rattle.mq_cli.specs.Stops.{OnMemory};

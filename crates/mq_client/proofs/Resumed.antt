@@ -3,7 +3,7 @@ use Rattle.std.proofs.Common.{◌≡◌, ◌⊎◌, ◌∙◌, List, ℕ, Option
 use Rattle.std.proofs.KnownBytes.{Appends-kept, Appends-trans}
 use Rattle.std.specs.Prelude.{IsErrOf}
 use Rattle.std.specs.Io.KnownBytes.{Appends, Keeps}
-use Rattle.mq_line.specs.Lines.{Prints}
+use Rattle.mq_packet.specs.Lines.{Prints}
 use Rattle.mq_flow.specs.declared.load.LoadError.{LoadError}
 use Rattle.mq_flow.specs.declared.load.LoadError.TheVariants.{AnotherClient, Memory, TooLarge}
 use Rattle.mq_flow.specs.declared.saved.Saved.{Saved}

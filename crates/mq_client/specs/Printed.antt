@@ -1,6 +1,6 @@
 -- The lines that the client programs print, each with its line end.
 use Rattle.std.specs.Prelude.{ℕ, List, [], ◌∷◌, ◌++◌, codes, decimal}
-use Rattle.mq_line.specs.Lines.{escaped, hex_of}
+use Rattle.mq_packet.specs.Lines.{escaped, hex_of}
 use Rattle.mq_topic.specs.Qos.{qos_number}
 use Rattle.mq_packet.specs.declared.message.Message.{Message}
 use Rattle.mq_end.specs.declared.happening.Happening.{Happening}

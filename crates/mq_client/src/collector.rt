@@ -3,7 +3,7 @@
 ghost use Rattle.std.specs.Prelude.{◌≡◌, ◌-◌, ◌<◌, ◌∷◌, ◌⊎◌, ℕ, List, [], true, false, length, IfOk, IfSome, OnErr, OnOk};
 ghost use Rattle.std.specs.List.{flat_map};
 ghost use Rattle.std.specs.Io.KnownBytes.{Keeps as Silent};
-ghost use Rattle.mq_line.specs.Lines.{Prints};
+ghost use Rattle.mq_packet.specs.Lines.{Prints};
 ghost use Rattle.mq_flow.specs.Receiver.{none_received};
 ghost use Rattle.mq_end.specs.End.{is_up};
 ghost use Rattle.mq_client.specs.Course.{Opening, Subscription, Went};

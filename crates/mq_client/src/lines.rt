@@ -11,8 +11,7 @@ ghost use Rattle.mq_client.specs.Printed.{halt_line, message_line, payload_word,
 use crate::client::LoadFailure;
 use crate::error::ClientError;
 use mq_end::Happening;
-use mq_line::{Escaped, Hex};
-use mq_packet::Message;
+use mq_packet::{Escaped, Hex, Message};
 use std::alloc::Global;
 use std::io::{ErrorKind, Write};
 use std::{fmt, io};

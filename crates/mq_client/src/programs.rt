@@ -2,7 +2,7 @@
 
 ghost use Rattle.std.specs.Prelude.{◌≡◌, true, IfOk, OnOk, MatchOption};
 ghost use Rattle.std.specs.Io.KnownBytes.{Appends};
-ghost use Rattle.mq_line.specs.Lines.{Prints};
+ghost use Rattle.mq_packet.specs.Lines.{Prints};
 ghost use Rattle.mq_client.specs.Disk.{Replaced, history_of, stands_of};
 ghost use Rattle.mq_client.specs.Halts.{halt_status};
 ghost use Rattle.mq_client.specs.Keeping.{marked_form, saved_of};

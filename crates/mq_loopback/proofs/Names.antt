@@ -11,7 +11,7 @@ use Rattle.mq_topic.specs.Topic.{IsTopicFilter}
 use Rattle.mq_topic.specs.declared.fault.TopicFault.{TopicFault}
 use Rattle.mq_topic.specs.declared.fault.TopicFault.TheVariants as faults
 use Rattle.mq_topic.proofs.Faults.{laws}
-use Rattle.mq_line.specs.Lines.{escaped, escaped_byte}
+use Rattle.mq_packet.specs.Lines.{escaped, escaped_byte}
 use Rattle.mq_schedule.proofs.Codes.{escaped_code, same_codes}
 use Rattle.mq_schedule.proofs.Octets.{utf8_bytes}
 

@@ -3,7 +3,7 @@ use Rattle.std.proofs.Common.{◌≡◌, ◌≢◌, ℕ, ◌<◌, Bool, true, fa
 use Rattle.std.proofs.lemmas.Bool.{ltb-false}
 use Rattle.std.specs.List.{AllByRecursion, AllZip}
 use Rattle.mq_topic.specs.Qos.{qos_number}
-use Rattle.mq_line.specs.Lines.{escaped}
+use Rattle.mq_packet.specs.Lines.{escaped}
 use Rattle.mq_schedule.specs.Schedule.{bytes_word, words_of}
 use Rattle.mq_schedule.proofs.Unique.{same_number, same_payload, same_qos}
 use Rattle.mq_loopback.specs.declared.client.Client.{Client}

@@ -5,7 +5,7 @@ use Rattle.hex.specs.Hex.{IsBytes}
 use Rattle.mq_wire.specs.Text.{IsText}
 use Rattle.mq_topic.specs.Qos.{qos_number}
 use Rattle.mq_topic.specs.Topic.{IsTopicFilter, IsTopicName}
-use Rattle.mq_line.specs.Lines.{escaped}
+use Rattle.mq_packet.specs.Lines.{escaped}
 use Rattle.mq_schedule.specs.Schedule.{IsNumber, bytes_word, words_of}
 use Rattle.mq_loopback.specs.declared.client.Client.{Client}
 use Rattle.mq_loopback.specs.declared.client.Collector.{Collector}

@@ -2,7 +2,7 @@
 use Rattle.std.specs.Prelude.{ℕ, Bool, ◌&&◌, List, [], ◌∷◌, ◌++◌, codes, decimal, if◌then◌else◌}
 use Rattle.std.specs.List.{flat_map}
 use Rattle.mq_packet.specs.declared.message.Message.{Message}
-use Rattle.mq_line.specs.Lines.{escaped}
+use Rattle.mq_packet.specs.Lines.{escaped}
 use Rattle.mq_schedule.specs.Schedule.{bytes_word}
 use Rattle.mq_client.specs.Halts.{halt_status}
 use Rattle.mq_client.specs.Printed.{halt_line}

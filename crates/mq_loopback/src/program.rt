@@ -1,7 +1,7 @@
 //! The program `loopback`.
 
 ghost use Rattle.std.specs.Prelude.{◌<◌, ◌≤◌, IfOk, None, length};
-ghost use Rattle.mq_line.specs.Lines.{Prints};
+ghost use Rattle.mq_packet.specs.Lines.{Prints};
 ghost use Rattle.mq_loopback.specs.Program.{Ends, IsInputRun, IsLoopback, IsNoFile, IsRunDone};
 
 use crate::client::Client;

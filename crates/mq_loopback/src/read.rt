@@ -4,7 +4,7 @@ ghost use Rattle.std.specs.Prelude.{◌≡◌, ◌<◌, ◌≤◌, ◌∷◌, �
 ghost use Rattle.std.specs.Io.BufRead.{strip_last};
 ghost use Rattle.mq_wire.specs.Text.{IsText};
 ghost use Rattle.mq_topic.specs.Topic.{IsTopicFilter};
-ghost use Rattle.mq_line.specs.Lines.{escaped};
+ghost use Rattle.mq_packet.specs.Lines.{escaped};
 ghost use Rattle.mq_schedule.specs.Parts.{Finds};
 ghost use Rattle.mq_schedule.specs.Schedule.{lines_of, words_of};
 ghost use Rattle.mq_loopback.specs.File.{AreClients, ArePayloads, IsBadLine, IsCount, IsFresh, Joins, Says};

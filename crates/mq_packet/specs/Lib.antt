@@ -4,3 +4,4 @@ pub mod Publication
 pub mod Encoding
 pub mod Values
 pub mod Writing
+pub mod Lines

@@ -16,6 +16,7 @@ mod list;
 mod message;
 mod packet;
 mod publish;
+mod text;
 mod write;
 
 pub use crate::binary::{Binary, Payload};
@@ -28,4 +29,5 @@ pub use crate::list::NonEmpty;
 pub use crate::message::Message;
 pub use crate::packet::{Packet, Request, SubAckCode};
 pub use crate::publish::{Delivery, MessageRef, Publish};
+pub use crate::text::{Escaped, Hex};
 pub use crate::write::{WriteError, write_packet};

@@ -4,7 +4,7 @@ use Rattle.std.specs.List.{list_all}
 use Rattle.std.specs.Fmt.{digit_glyph}
 use Rattle.std.proofs.lemmas.Fmt.{hex_one_digit}
 use Rattle.std.proofs.lemmas.Bool.Decides.{nat_tests}
-use Rattle.mq_line.specs.Lines.{byte_digits, escaped_byte}
+use Rattle.mq_packet.specs.Lines.{byte_digits, escaped_byte}
 use Rattle.mq_picture.specs.Texts.{EscapeLaw, is_entity, is_plain, xml_byte}
 
 -- the digits of a byte are two

@@ -4,7 +4,7 @@ use Rattle.std.proofs.lemmas.List.{append-nil, length-take-le, take_more}
 use Rattle.std.proofs.KnownBytes.{Appends-trans}
 use Rattle.std.specs.Io.KnownBytes.{Appends}
 use Rattle.mq_picture.specs.declared.rows.Row.{Row}
-use Rattle.mq_line.specs.Lines.{Prints}
+use Rattle.mq_packet.specs.Lines.{Prints}
 use Rattle.mq_picture.specs.Image.{IsHead, IsImage, body_lines, first_text, lines_from, lines_text, row_lines}
 
 -- a row more at the end

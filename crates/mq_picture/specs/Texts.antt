@@ -3,7 +3,7 @@ use Rattle.std.specs.Prelude.{◌≡◌, ℕ, ◌<◌, Bool, true, false, ◌==�
 use Rattle.std.specs.List.{flat_map, list_all}
 use Rattle.mq_packet.specs.declared.message.Message.{Message}
 use Rattle.mq_end.specs.Codes.{close_code, refusal_code}
-use Rattle.mq_line.specs.Lines.{escaped_byte, hex_of}
+use Rattle.mq_packet.specs.Lines.{escaped_byte, hex_of}
 use Rattle.mq_picture.specs.declared.entry.Note.{Note}
 use Rattle.mq_picture.specs.declared.entry.Note.TheVariants as notes
 use Rattle.mq_picture.specs.declared.rows.Arrow.{Arrow}

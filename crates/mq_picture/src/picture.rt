@@ -1,7 +1,7 @@
 //! Schedules as pictures.
 
 ghost use Rattle.std.specs.Prelude.{◌≡◌, IfErr, OnOk};
-ghost use Rattle.mq_line.specs.Lines.{Prints};
+ghost use Rattle.mq_packet.specs.Lines.{Prints};
 ghost use Rattle.mq_picture.specs.Fault.{OnMemory};
 ghost use Rattle.mq_picture.specs.Image.{IsPicture};
 

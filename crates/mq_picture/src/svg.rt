@@ -2,7 +2,7 @@
 
 ghost use Rattle.std.specs.Prelude.{◌≡◌, OnOk, codes};
 ghost use Rattle.std.specs.Io.KnownBytes.{Appends};
-ghost use Rattle.mq_line.specs.Lines.{Prints};
+ghost use Rattle.mq_packet.specs.Lines.{Prints};
 ghost use Rattle.mq_picture.specs.Image.{IsHead, IsImage, arrow_label, arrow_line, arrow_lines, arrow_place, body_lines, first_text, line_class, lines_text, note_lines, note_look, row_lines};
 ghost use Rattle.mq_picture.specs.Rows.{reaches};
 

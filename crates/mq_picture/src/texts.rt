@@ -2,14 +2,13 @@
 
 ghost use Rattle.std.specs.Prelude.{◌≡◌, Some, take};
 ghost use Rattle.std.specs.Fmt.{DisplaysOnOk};
-ghost use Rattle.mq_line.specs.Lines.{escaped_byte};
+ghost use Rattle.mq_packet.specs.Lines.{escaped_byte};
 ghost use Rattle.mq_picture.specs.Texts.{EscapeLaw, accepted_text, arrow_text, delivered_text, dots, dup_text, fate_text, id_text, kind_text, note_text, short_payload, short_topic, summary_text, xml_byte, xml_text};
 
 use crate::entry::Note;
 use crate::rows::{Arrow, Fate};
 use crate::summary::{Kind, Summary};
-use mq_line::Hex;
-use mq_packet::{Message, PacketId};
+use mq_packet::{Hex, Message, PacketId};
 use std::fmt;
 
 // The most bytes of a topic name and of a payload that a diagram shows.

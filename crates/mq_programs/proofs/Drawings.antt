@@ -2,7 +2,7 @@
 use Rattle.std.proofs.Common.{◌≡◌, ℕ, false, List, ◌++◌, Option, Some, None, Result, Ok, Err, IfOk, inl, inr, sym, ap, subst, ◌∙◌, append-nil}
 use Rattle.std.proofs.KnownBytes.{Appends-trans}
 use Rattle.std.specs.Io.KnownBytes.{Appends, Keeps}
-use Rattle.mq_line.specs.Lines.{Prints}
+use Rattle.mq_packet.specs.Lines.{Prints}
 use Rattle.mq_cli.specs.Status.{IsReplayDone}
 use Rattle.mq_cli.specs.declared.jobs.Source.{Source}
 use Rattle.mq_programs.specs.Drawing.{IsDrawRun, IsSaved}

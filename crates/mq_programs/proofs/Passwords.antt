@@ -2,7 +2,7 @@
 use Rattle.std.proofs.Common.{◌≡◌, ◌↔◌, ℕ, true, false, List, length, Option, Result, Err, inl, inr, refl}
 use Rattle.std.specs.Prelude.{IfSome, IsErrOf}
 use Rattle.hex.specs.Hex.{encode_lower}
-use Rattle.mq_line.specs.Lines.{Prints}
+use Rattle.mq_packet.specs.Lines.{Prints}
 use Rattle.mq_status.specs.Passwords.{fits, is_field, is_name}
 use Rattle.mq_status.specs.declared.passwords.PasswordLineError.{PasswordLineError}
 use Rattle.mq_status.specs.declared.passwords.PasswordLineError.TheVariants.{Name, Salt, Password, Memory}

@@ -1,7 +1,7 @@
 -- The output of the client programs, for their arguments.
 use Rattle.std.proofs.Common.{◌≡◌, ℕ, Bool, List, Option, Some, None, Result, Ok, Err, IfOk, OnOk, inl, inr, refl, subst, sym}
 use Rattle.std.specs.Prelude.{◌≢◌, IfErr, IfNone, IfSome, IsErrOf}
-use Rattle.mq_line.specs.Lines.{Prints}
+use Rattle.mq_packet.specs.Lines.{Prints}
 use Rattle.mq_topic.specs.declared.fault.TopicFault.{TopicFault}
 use Rattle.mq_topic.specs.declared.fault.TopicFault.TheVariants.{Memory}
 use Rattle.mq_cli.specs.declared.jobs.Collect.{Collect}

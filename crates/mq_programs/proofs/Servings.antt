@@ -1,7 +1,7 @@
 -- The command `serve`.
 use Rattle.std.proofs.Common.{◌≡◌, ◌⊎◌, ◌<◌, ◌≤◌, ℕ, List, Option, None, inl, inr, subst, arith}
 use Rattle.mq_cli.specs.declared.jobs.Serve.{Serve}
-use Rattle.mq_line.specs.Lines.{Prints}
+use Rattle.mq_packet.specs.Lines.{Prints}
 use Rattle.mq_serve.specs.Printed.{IsServeRun}
 use Rattle.mq_serve.specs.declared.serve_end.ServeEnd.{ServeEnd}
 use Rattle.mq_programs.specs.Serving.{IsServeCommand}

@@ -2,7 +2,7 @@
 
 ghost use Rattle.std.specs.Prelude.{◌≡◌, ◌≢◌, Some, IfOk, OnOk};
 ghost use Rattle.std.specs.Io.KnownBytes.{Appends};
-ghost use Rattle.mq_line.specs.Lines.{Prints};
+ghost use Rattle.mq_packet.specs.Lines.{Prints};
 ghost use Rattle.mq_cli.specs.Printed.{topic_line};
 ghost use Rattle.mq_programs.specs.Runs.{AreTextsOf, IsBadTopic, IsClientRun, IsCollectRun, IsCollected, IsLockedRun, IsPublishRun, IsPublished, IsSessionRun};
 

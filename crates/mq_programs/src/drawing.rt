@@ -1,7 +1,7 @@
 //! The command `replay --svg`.
 
 ghost use Rattle.std.specs.Prelude.{◌≡◌, Some, false, IfOk, IfSome};
-ghost use Rattle.mq_line.specs.Lines.{Prints};
+ghost use Rattle.mq_packet.specs.Lines.{Prints};
 ghost use Rattle.mq_cli.specs.Status.{IsReplayDone};
 ghost use Rattle.mq_picture.specs.Image.{IsPicture};
 ghost use Rattle.mq_schedule.specs.Schedule.{IsSchedule, lines_of};

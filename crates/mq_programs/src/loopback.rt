@@ -1,7 +1,7 @@
 //! The command `loopback`.
 
 ghost use Rattle.std.specs.Prelude.{IfOk};
-ghost use Rattle.mq_line.specs.Lines.{Prints};
+ghost use Rattle.mq_packet.specs.Lines.{Prints};
 ghost use Rattle.mq_loopback.specs.Program.{IsInputRun};
 ghost use Rattle.mq_programs.specs.Inputs.{input_of};
 

@@ -2,8 +2,7 @@
 
 use mq_client::{ClientError, Halt, LoadFailure, SaveError, Stop};
 use mq_end::CloseReason;
-use mq_line::Escaped;
-use mq_packet::RefusalCode;
+use mq_packet::{Escaped, RefusalCode};
 use mq_topic::{Qos, TopicFault};
 use std::io::{ErrorKind, Write};
 use std::{fmt, io};

@@ -1,8 +1,7 @@
 //! Streams that print their packets.
 
 use mq_decode::{Decoder, Limits};
-use mq_line::{Escaped, Line};
-use mq_packet::{Connect, Packet, Publish};
+use mq_packet::{Connect, Escaped, Packet, Publish};
 use mq_stream::{Broken, ReadOutcome, Stream};
 use std::alloc::Global;
 
@@ -48,8 +47,7 @@ fn tell<R: Eprint>(rt: &R, way: &str, packet: &Packet) {
         Packet::Connect(connect) => tell_connect(rt, way, connect.as_connect()),
         Packet::Publish(publish) => tell_publish(rt, way, publish),
         packet => {
-            let line = Line(packet);
-            let _ = eprintln!(rt; "{way} {line}");
+            let _ = eprintln!(rt; "{way} {packet}");
         }
     }
 }

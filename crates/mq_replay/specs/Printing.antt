@@ -16,7 +16,7 @@ use Rattle.mq_world.specs.declared.answer.Answer.TheVariants as answers
 use Rattle.mq_world.specs.declared.answer.Delivery.{Delivery}
 use Rattle.mq_world.specs.declared.answer.Opening.{Opening}
 use Rattle.mq_world.specs.declared.answer.Settling.{Settling}
-use Rattle.mq_line.specs.Lines.{escaped, truth}
+use Rattle.mq_packet.specs.Lines.{escaped, truth}
 use Rattle.mq_schedule.specs.Schedule.{bytes_word, side_word}
 
 -- ---- One line each: the side, and the result

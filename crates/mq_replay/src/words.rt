@@ -3,8 +3,7 @@
 ghost use Rattle.std.specs.Prelude.{Some};
 ghost use Rattle.mq_replay.specs.Printing.{handed_text, id_word};
 
-use mq_line::Escaped;
-use mq_packet::{Message, PacketId};
+use mq_packet::{Escaped, Message, PacketId};
 use mq_schedule::BytesWord;
 use std::fmt;
 

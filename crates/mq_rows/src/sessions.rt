@@ -8,7 +8,6 @@ use crate::messages::{add_short, message};
 use crate::words::Words;
 use crate::wrong::Wrong;
 use mq_flow::{Claim, Reaction, ReceiveRefusal, Refusal, Sender, Session};
-use mq_line::Line;
 use mq_packet::{Message, Packet, PacketId};
 use mq_topic::Qos;
 use mq_wire::Text;
@@ -101,7 +100,7 @@ fn awaits(sender: &Sender, words: &mut Words<'_>, told: &mut String) -> Result<(
 // Adds the lines of packets.
 fn add_lines(told: &mut String, packets: &[Packet]) -> Result<(), AllocError> {
     for packet in packets {
-        write!(told, "{};", Line(packet))?;
+        write!(told, "{packet};")?;
     }
     Ok(())
 }
@@ -118,7 +117,7 @@ fn add_received(
     received: &Result<(Option<Message>, Packet), ReceiveRefusal>,
 ) -> Result<(), Wrong> {
     match received {
-        Ok((handed, answer)) => write!(told, "{} {}", handed.is_some(), Line(answer))?,
+        Ok((handed, answer)) => write!(told, "{} {answer}", handed.is_some())?,
         Err(why) => write!(told, "{why}")?,
     }
     Ok(())
@@ -152,7 +151,7 @@ fn receive(
 // `pubrel ID`: a PUBREL comes.
 fn release(session: &mut Session, words: &mut Words<'_>, told: &mut String) -> Result<(), Wrong> {
     let answer = session.receiver.on_pubrel(words.id()?);
-    write!(told, "{}", Line(&answer))?;
+    write!(told, "{answer}")?;
     Ok(())
 }
 

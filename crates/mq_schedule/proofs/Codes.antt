@@ -4,7 +4,7 @@ use Rattle.std.specs.Fmt.{digit_glyph}
 use Rattle.std.proofs.lemmas.Fmt.{hex_one_digit}
 use Rattle.std.proofs.lemmas.Bool.Decides.{nat_tests}
 use Rattle.hex.specs.Hex.{IsBytes}
-use Rattle.mq_line.specs.Lines.{byte_digits, escaped_byte}
+use Rattle.mq_packet.specs.Lines.{byte_digits, escaped_byte}
 use Rattle.mq_schedule.specs.Parts.{is_plain}
 
 -- ---- two digits

@@ -13,7 +13,7 @@ use Rattle.mq_world.specs.declared.side.Side.{Side}
 use Rattle.mq_world.specs.declared.side.Side.TheVariants.{Client, Server}
 use Rattle.mq_world.specs.declared.event.Event.{Event as WorldEvent}
 use Rattle.mq_world.specs.declared.event.Event.TheVariants as events
-use Rattle.mq_line.specs.Lines.{byte_digits, escaped, escaped_byte, hex_of}
+use Rattle.mq_packet.specs.Lines.{byte_digits, escaped, escaped_byte, hex_of}
 use Rattle.mq_schedule.specs.declared.schedule.Step.{Step}
 use Rattle.mq_schedule.specs.declared.schedule.Step.TheVariants.{Event, Settle}
 use Rattle.mq_schedule.specs.declared.schedule.Schedule.{Schedule}

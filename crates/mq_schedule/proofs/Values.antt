@@ -8,7 +8,7 @@ use Rattle.mq_topic.specs.Topic.{IsTopicName}
 use Rattle.mq_topic.specs.declared.fault.TopicFault.{TopicFault}
 use Rattle.mq_topic.specs.declared.fault.TopicFault.TheVariants as faults
 use Rattle.mq_topic.proofs.Faults.{laws}
-use Rattle.mq_line.specs.Lines.{byte_digits, escaped, escaped_byte, hex_of}
+use Rattle.mq_packet.specs.Lines.{byte_digits, escaped, escaped_byte, hex_of}
 use Rattle.mq_schedule.specs.Schedule.{bytes_word}
 use Rattle.mq_schedule.specs.Parts.{Finds}
 use Rattle.mq_schedule.proofs.Codes.{digits_code, escaped_code, same_codes}

@@ -4,7 +4,7 @@ use Rattle.std.specs.List.{flat_map}
 use Rattle.std.specs.Int.NonZero.{non_zero_u16_get}
 use Rattle.mq_topic.specs.Qos.{qos_number}
 use Rattle.mq_world.specs.declared.event.Event.TheVariants as events
-use Rattle.mq_line.specs.Lines.{escaped}
+use Rattle.mq_packet.specs.Lines.{escaped}
 use Rattle.mq_schedule.specs.declared.schedule.Step.{Step}
 use Rattle.mq_schedule.specs.declared.schedule.Step.TheVariants.{Event, Settle}
 use Rattle.mq_schedule.specs.declared.schedule.Schedule.{Schedule}

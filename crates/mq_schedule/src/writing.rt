@@ -10,8 +10,7 @@ ghost use Rattle.mq_schedule.specs.Parts.{KeepsBounds};
 ghost use Rattle.mq_schedule.specs.Writing.{line_with, schedule_text, step_line, world_words};
 
 use crate::schedule::{Schedule, Step};
-use mq_line::{Escaped, Hex};
-use mq_packet::Message;
+use mq_packet::{Escaped, Hex, Message};
 use mq_world::{Event, Side};
 use std::alloc::{AllocError, Global};
 use std::fmt;

@@ -7,7 +7,7 @@ use Rattle.std.specs.declared.net.SocketAddr.{SocketAddr}
 use Rattle.std.proofs.KnownBytes.{Appends-trans}
 use Rattle.mq_route.specs.Hub.{HubState}
 use Rattle.mq_book.specs.declared.work_end.WorkEnd.{WorkEnd}
-use Rattle.mq_line.specs.Lines.{Prints}
+use Rattle.mq_packet.specs.Lines.{Prints}
 use Rattle.mq_serve.specs.declared.serve_end.ServeEnd.{ServeEnd}
 use Rattle.mq_serve.specs.declared.serve_end.ServeEnd.TheVariants.{Listen}
 use Rattle.mq_serve.specs.Ends.{IsReported, end_of_work, end_status, stop_of}

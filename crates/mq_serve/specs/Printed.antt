@@ -7,7 +7,7 @@ use Rattle.std.specs.Net.Text.{socket_text}
 use Rattle.std.specs.Ordering.{nat_cmp}
 use Rattle.std.specs.declared.io.ErrorKind.{ErrorKind}
 use Rattle.std.specs.declared.net.SocketAddr.{SocketAddr}
-use Rattle.mq_line.specs.Lines.{escaped}
+use Rattle.mq_packet.specs.Lines.{escaped}
 use Rattle.mq_route.specs.Hub.{HubState}
 use Rattle.mq_serve.specs.Ends.{end_status}
 use Rattle.mq_serve.specs.declared.serve_end.ServeEnd.{ServeEnd}

@@ -7,7 +7,7 @@ ghost use Rattle.mq_serve.specs.Ends.{end_status};
 ghost use Rattle.mq_serve.specs.Printed.{end_line, end_lines, session_line};
 
 use crate::serve_end::ServeEnd;
-use mq_line::Escaped;
+use mq_packet::Escaped;
 use mq_wire::Text;
 use std::io;
 use std::io::Write;

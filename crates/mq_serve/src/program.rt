@@ -2,7 +2,7 @@
 
 ghost use Rattle.std.specs.Prelude.{◌≡◌, ◌<◌, ◌≤◌, IfOk, MatchResult, OnOk, Some};
 ghost use Rattle.std.specs.Io.KnownBytes.{Appends};
-ghost use Rattle.mq_line.specs.Lines.{Prints};
+ghost use Rattle.mq_packet.specs.Lines.{Prints};
 ghost use Rattle.mq_route.specs.Hub.{HubState};
 ghost use Rattle.mq_serve.specs.Ends.{IsReported, end_status};
 ghost use Rattle.mq_serve.specs.Printed.{AreSessions, IsEarly, IsServeRun, ServeEnds, end_line, end_lines};

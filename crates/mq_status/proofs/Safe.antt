@@ -4,7 +4,7 @@ use Rattle.std.proofs.lemmas.Bool.Decides.{nat_tests}
 use Rattle.std.proofs.lemmas.List.Folds.{list_all-append}
 use Rattle.std.specs.List.{list_all}
 use Rattle.std.specs.Fmt.{digits, digits_onto, digit_glyph}
-use Rattle.mq_line.specs.Lines.{escaped_byte, byte_digits}
+use Rattle.mq_packet.specs.Lines.{escaped_byte, byte_digits}
 use Rattle.mq_status.specs.Html.{HtmlLaws, html_byte, html_escaped, is_plain, is_safe}
 
 -- each byte is plain

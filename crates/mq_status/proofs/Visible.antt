@@ -10,7 +10,7 @@ use Rattle.mq_packet.specs.declared.connack.RefusalCode.TheVariants as refusals
 use Rattle.mq_end.specs.declared.reason.CloseReason.TheVariants as ends
 use Rattle.mq_route.specs.declared.close.HubClose.{HubClose}
 use Rattle.mq_route.specs.declared.close.HubClose.TheVariants as closes
-use Rattle.mq_line.specs.Lines.{escaped, escaped_byte, byte_digits}
+use Rattle.mq_packet.specs.Lines.{escaped, escaped_byte, byte_digits}
 use Rattle.mq_status.specs.Log.{LogLaws, close_text, refusal_text, refusal_words, line_text, is_visible}
 use Rattle.mq_status.specs.declared.log.LogLine.{LogLine}
 use Rattle.mq_status.specs.declared.log.LogLine.TheVariants as lines

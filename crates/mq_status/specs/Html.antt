@@ -2,7 +2,7 @@
 use Rattle.std.specs.Prelude.{◌≡◌, ℕ, Bool, true, not, ◌&&◌, ◌||◌, ◌==◌, List, [], ◌∷◌, length, take, codes, if◌then◌else◌}
 use Rattle.std.specs.List.{flat_map, list_any}
 use Rattle.std.specs.Str.{bytes_eq}
-use Rattle.mq_line.specs.Lines.{escaped_byte}
+use Rattle.mq_packet.specs.Lines.{escaped_byte}
 
 -- a character that HTML reads as more than itself becomes an entity; any other byte is printed as
 -- in a line

@@ -8,7 +8,7 @@ use Rattle.mq_end.specs.declared.reason.CloseReason.TheVariants as ends
 use Rattle.mq_route.specs.Codes.{hub_close_code}
 use Rattle.mq_route.specs.declared.close.HubClose.{HubClose}
 use Rattle.mq_route.specs.declared.close.HubClose.TheVariants as closes
-use Rattle.mq_line.specs.Lines.{escaped}
+use Rattle.mq_packet.specs.Lines.{escaped}
 use Rattle.mq_status.specs.declared.log.LogLine.{LogLine}
 use Rattle.mq_status.specs.declared.log.LogLine.TheVariants as lines
 

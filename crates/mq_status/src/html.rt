@@ -2,17 +2,17 @@
 
 ghost use Rattle.std.specs.Prelude.{Some};
 ghost use Rattle.std.specs.Fmt.{DisplaysOnOk};
-ghost use Rattle.mq_line.specs.Lines.{escaped_byte};
+ghost use Rattle.mq_packet.specs.Lines.{escaped_byte};
 ghost use Rattle.mq_status.specs.Html.{HtmlLaws, html_byte, html_escaped};
 
 use std::fmt;
 
 /// Displays a text for the content or a quoted attribute of an element of HTML. `<`, `>`, `&`, `"`
-/// and `'` become entities. Other bytes are displayed as by [`mq_line::Escaped`].
+/// and `'` become entities. Other bytes are displayed as by [`mq_packet::Escaped`].
 #[derive(Clone, Copy)]
 pub struct HtmlEscaped<'a>(pub &'a str);
 
-// Writes a byte as `mq_line::Escaped` does.
+// Writes a byte as `mq_packet::Escaped` does.
 fn write_escaped<W: fmt::Write>(f: &mut fmt::Formatter<W>, byte: u8) -> fmt::Result
     ensures { DisplaysOnOk W.write_str_gives f.old result (Some (escaped_byte byte)) f.new }
 {

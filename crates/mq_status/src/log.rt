@@ -6,14 +6,13 @@ ghost use Rattle.std.specs.Io.KnownBytes.{Appends};
 ghost use Rattle.mq_status.specs.Log.{LogLaws, close_text, close_words, line_text, refusal_text, refusal_words};
 
 use mq_end::CloseReason;
-use mq_line::Escaped;
-use mq_packet::RefusalCode;
+use mq_packet::{Escaped, RefusalCode};
 use mq_route::HubClose;
 use std::io::Write;
 use std::{fmt, io};
 
 /// An event that the log reports in one line. Clients and addresses are printed as by
-/// [`mq_line::Escaped`], so that no client can break or forge a line.
+/// [`mq_packet::Escaped`], so that no client can break or forge a line.
 #[derive(Clone, Copy)]
 pub enum LogLine<'a> {
     /// A client is connected.

@@ -1,5 +1,5 @@
 use Rattle.std.proofs.Common.{◌≡◌, ℕ, List, Option, Result, Ok, Err, IfOk, inl, subst}
-use Rattle.mq_line.specs.Lines.{Prints}
+use Rattle.mq_packet.specs.Lines.{Prints}
 use Rattle.mq_schedule.specs.Schedule.{lines_of}
 use Rattle.mq_serve.specs.declared.serve_end.ServeEnd.TheVariants.{Memory}
 use Rattle.mq_loopback.specs.declared.client.Client.{Client}

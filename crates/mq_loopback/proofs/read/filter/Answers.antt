@@ -1,6 +1,6 @@
 use Rattle.std.proofs.Common.{◌≡◌, sym, ◌∙◌}
 use Rattle.mq_topic.specs.Topic.{IsTopicFilter}
-use Rattle.mq_line.specs.Lines.{escaped}
+use Rattle.mq_packet.specs.Lines.{escaped}
 use Rattle.mq_schedule.proofs.Values.{no_value}
 use Rattle.mq_loopback.proofs.Names.{filter_memory, same_text}
 use Rattle.mq_loopback.proofs.read.filter.Goals as goal

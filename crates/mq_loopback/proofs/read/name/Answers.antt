@@ -1,6 +1,6 @@
 use Rattle.std.proofs.Common.{◌≡◌, sym, ◌∙◌}
 use Rattle.mq_wire.specs.Text.{IsText}
-use Rattle.mq_line.specs.Lines.{escaped}
+use Rattle.mq_packet.specs.Lines.{escaped}
 use Rattle.mq_schedule.proofs.Values.{no_value}
 use Rattle.mq_loopback.proofs.Names.{text_bytes, text_is, text_memory, text_utf8}
 use Rattle.mq_loopback.proofs.read.name.Goals as goal

@@ -1,6 +1,6 @@
 use Rattle.std.proofs.Common.{◌≡◌, ℕ, Some, false, List, inr, refl, subst, sym}
 use Rattle.std.specs.Prelude.{IfSome}
-use Rattle.mq_line.specs.Lines.{Prints}
+use Rattle.mq_packet.specs.Lines.{Prints}
 use Rattle.mq_cli.specs.Printed.{file_not_read}
 use Rattle.mq_cli.specs.Status.{IsReplayDone}
 use Rattle.mq_programs.specs.Inputs.{input_of}

@@ -1,6 +1,6 @@
 use Rattle.std.proofs.Common.{sym, subst}
 use Rattle.mq_cli.specs.declared.jobs.Source.{Source}
-use Rattle.mq_line.specs.Lines.{Prints}
+use Rattle.mq_packet.specs.Lines.{Prints}
 use Rattle.mq_loopback.specs.Program.{IsInputRun}
 use Rattle.mq_programs.specs.Inputs.{input_of}
 use Rattle.mq_programs.proofs.loopback.run_loopback.Goals as goal

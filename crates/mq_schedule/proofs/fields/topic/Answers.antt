@@ -1,5 +1,5 @@
 use Rattle.std.proofs.Common.{◌≡◌, sym, ◌∙◌}
-use Rattle.mq_line.specs.Lines.{escaped}
+use Rattle.mq_packet.specs.Lines.{escaped}
 use Rattle.mq_topic.specs.Topic.{IsTopicName}
 use Rattle.mq_schedule.proofs.Octets.{name_bytes, name_utf8}
 use Rattle.mq_schedule.proofs.Values.{name_is, name_memory, no_value}

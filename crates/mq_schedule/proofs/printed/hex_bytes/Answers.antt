@@ -1,5 +1,5 @@
 use Rattle.std.proofs.Common.{length, ap, sym, ◌∙◌, arith}
-use Rattle.mq_line.specs.Lines.{byte_digits}
+use Rattle.mq_packet.specs.Lines.{byte_digits}
 use Rattle.mq_schedule.proofs.Codes.{digits_code, no_pair, rest, short_pair, some_left, stuck}
 use Rattle.mq_schedule.proofs.printed.hex_bytes.Goals as goal
 

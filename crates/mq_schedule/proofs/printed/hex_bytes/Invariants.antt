@@ -1,6 +1,6 @@
 use Rattle.std.proofs.Common.{◌≡◌, ◌++◌, length}
 use Rattle.hex.specs.Hex.{IsBytes}
-use Rattle.mq_line.specs.Lines.{hex_of}
+use Rattle.mq_packet.specs.Lines.{hex_of}
 use Rattle.mq_schedule.proofs.printed.hex_bytes.Given as goal
 
 -- The digits are those of the bytes read, followed by the rest.

@@ -1,5 +1,5 @@
 use Rattle.std.proofs.Common.{sym, ◌∙◌}
-use Rattle.mq_line.specs.Lines.{escaped_byte}
+use Rattle.mq_packet.specs.Lines.{escaped_byte}
 use Rattle.mq_schedule.proofs.Codes.{escaped_code, rest, some_left, stuck}
 use Rattle.mq_schedule.proofs.printed.unescaped.Goals as goal
 

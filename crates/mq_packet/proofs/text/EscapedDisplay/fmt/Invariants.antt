@@ -1,7 +1,7 @@
 use Rattle.std.proofs.Common.{take, flat_map}
 use Rattle.std.specs.Fmt.{HasWritten, IsPlainFormatter}
-use Rattle.mq_line.specs.Lines.{escaped_byte}
-use Rattle.mq_line.proofs.line.EscapedDisplay.fmt.Given as goal
+use Rattle.mq_packet.specs.Lines.{escaped_byte}
+use Rattle.mq_packet.proofs.text.EscapedDisplay.fmt.Given as goal
 
 abbrev pub invariant-loop-byte : goal.invariant-loop-byte
 invariant-loop-byte g l =

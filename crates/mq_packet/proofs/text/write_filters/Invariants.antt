@@ -1,7 +1,7 @@
 use Rattle.std.proofs.Common.{take, flat_map}
 use Rattle.std.specs.Fmt.{HasWritten, IsPlainFormatter}
-use Rattle.mq_line.specs.Lines.{filter_text}
-use Rattle.mq_line.proofs.line.write_filters.Given as goal
+use Rattle.mq_packet.specs.Lines.{filter_text}
+use Rattle.mq_packet.proofs.text.write_filters.Given as goal
 
 abbrev pub invariant-loop-filter : goal.invariant-loop-filter
 invariant-loop-filter g l =

@@ -1,7 +1,7 @@
 use Rattle.std.proofs.Common.{take, flat_map}
 use Rattle.std.specs.Fmt.{HasWritten, IsPlainFormatter}
-use Rattle.mq_line.specs.Lines.{request_text}
-use Rattle.mq_line.proofs.line.write_requests.Given as goal
+use Rattle.mq_packet.specs.Lines.{request_text}
+use Rattle.mq_packet.proofs.text.write_requests.Given as goal
 
 abbrev pub invariant-loop-request : goal.invariant-loop-request
 invariant-loop-request g l =

@@ -1,26 +1,26 @@
-//! Texts, bytes and packets as they are printed.
+//! Texts, bytes and packets as they are printed, each on one line without the line's end.
 
 ghost use Rattle.std.specs.Prelude.{◌≡◌, Some};
 ghost use Rattle.std.specs.List.{flat_map};
 ghost use Rattle.std.specs.Fmt.{DisplaysOnOk};
-ghost use Rattle.mq_line.specs.Lines.{code_text, connack_text, connect_text, delivery_text, escaped, escaped_byte, filter_text, hex_of, identified, is_dup, login_text, packet_text, password_text, publish_text, request_text, will_text};
+ghost use Rattle.mq_packet.specs.Lines.{code_text, connack_text, connect_text, delivery_text, escaped, escaped_byte, filter_text, hex_of, identified, is_dup, login_text, packet_text, password_text, publish_text, request_text, will_text};
 
-use mq_packet::{
-    Binary, ConnAck, Connect, Delivery, Login, Packet, PacketId, Publish, Request, SubAckCode, Will,
-};
+use crate::binary::Binary;
+use crate::connack::ConnAck;
+use crate::connect::{Connect, Login, Will};
+use crate::id::PacketId;
+use crate::packet::{Packet, Request, SubAckCode};
+use crate::publish::{Delivery, Publish};
 use mq_topic::TopicFilter;
 use std::fmt;
 
 /// Displays a packet as its name and its fields, on one line without a line's end, however long it
 /// is. Texts are displayed as by `Escaped`, other bytes as by `Hex`, and truth values as 0 and 1.
-#[derive(Clone, Copy)]
-pub struct Line<'a>(pub &'a Packet);
-
-impl fmt::Display for Line<'_> {
-    ghost output = { λ line. Some (packet_text line.0.now) };
+impl fmt::Display for Packet {
+    ghost output = { λ packet. Some (packet_text packet) };
 
     fn fmt<W: fmt::Write>(&self, f: &mut fmt::Formatter<W>) -> fmt::Result {
-        match self.0 {
+        match self {
             Packet::Connect(connect) => write_connect(f, connect.as_connect()),
             Packet::ConnAck(answer) => write_connack(f, *answer),
             Packet::Publish(publish) => write_publish(f, publish),
