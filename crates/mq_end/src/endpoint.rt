@@ -10,11 +10,12 @@ ghost use Rattle.mq_end.specs.Server.{opens};
 ghost use Rattle.mq_end.specs.State.{no_bytes, no_room};
 ghost use Rattle.mq_end.specs.declared.state.State.TheVariants as states;
 
+use crate::lazy_decoder::LazyDecoder;
 use crate::output::Output;
 use crate::queue::ByteQueue;
 use crate::reason::CloseReason;
 use crate::state::State;
-use mq_decode::{Decoder, Limits};
+use mq_decode::Limits;
 use mq_flow::Session;
 use mq_packet::Packet;
 use std::alloc::{AllocError, Global};
@@ -33,12 +34,12 @@ pub(crate) struct Endpoint {
     pub(crate) window: Option<u16>,
     pub(crate) limits: Limits,
     pub(crate) last_activity: u64,
-    pub(crate) decoder: Decoder,
+    pub(crate) decoder: LazyDecoder,
     pub(crate) output: Output,
 }
 
 impl Model for Endpoint {
-    ghost use Rattle.std.specs.Prelude.{◌≡◌, ◌<◌, None};
+    ghost use Rattle.std.specs.Prelude.{◌≡◌, ◌<◌};
     ghost use Rattle.std.specs.Coded.{codes, coded_ℕ};
     ghost use Rattle.std.specs.FinSet as set;
     ghost use Rattle.std.specs.Ordering.{nat_cmp};
@@ -67,7 +68,7 @@ impl Model for Endpoint {
       room = record { messages = l.session.sender.room; bytes = l.output.room };
     } };
 
-    ghost invariant = { λ l. (l.decoder.limit ≡ l.limits) × (l.decoder.failed ≡ None) };
+    ghost invariant = { λ l. l.decoder.limit ≡ l.limits };
 }
 
 impl Endpoint {

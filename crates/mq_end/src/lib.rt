@@ -16,6 +16,7 @@ mod first_packet;
 mod flows;
 mod happening;
 mod laws;
+mod lazy_decoder;
 mod output;
 mod packet_outcome;
 mod packets;

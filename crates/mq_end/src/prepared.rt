@@ -17,7 +17,8 @@ use std::marker::Model;
 #[derive(Debug, Drop)]
 pub struct PreparedMessage {
     message: Message,
-    encoded: Option<EncodedPublish>,
+    // In a box, since most messages have none.
+    encoded: Option<Box<EncodedPublish>>,
 }
 
 /// The encoding of a PUBLISH with this delivery.
@@ -38,7 +39,7 @@ impl Model for PreparedMessage {
     ghost view = { λ p. p.message };
 
     ghost invariant = { λ p. IfSome p.encoded
-        (λ e. Encodes (packets.Publish (record { message = p.message; delivery = e.delivery })) e.block) };
+        (λ e. Encodes (packets.Publish (record { message = p.message; delivery = e.value.delivery })) e.value.block) };
 }
 
 // Returns the encoding of a PUBLISH (3.3). `None` if it is too large or an allocation fails.
@@ -55,14 +56,21 @@ fn encode_publish(alloc: Global, message: &Message, delivery: Option<Delivery>) 
 }
 
 // Moves the encoding of a PUBLISH into a block.
-fn in_block(alloc: Global, bytes: Vec<u8>, delivery: Option<Delivery>) -> Option<EncodedPublish>
-    ensures { IfSome result (λ e. (e.delivery ≡ delivery) × (e.block ≡ bytes.items)) }
+fn in_block(
+    alloc: Global,
+    bytes: Vec<u8>,
+    delivery: Option<Delivery>,
+) -> Option<Box<EncodedPublish>>
+    ensures { IfSome result (λ e. (e.value.delivery ≡ delivery) × (e.value.block ≡ bytes.items)) }
 {
-    match Bytes::from_vec(bytes) {
-        Ok(bytes) => match Block::new(alloc, bytes) {
-            Ok(block) => Some(EncodedPublish { delivery, block }),
-            Err(_) => None,
-        },
+    let Ok(bytes) = Bytes::from_vec(bytes) else {
+        return None;
+    };
+    let Ok(block) = Block::new(alloc, bytes) else {
+        return None;
+    };
+    match Box::new(alloc, EncodedPublish { delivery, block }) {
+        Ok(encoded) => Some(encoded),
         Err(_) => None,
     }
 }
@@ -114,10 +122,15 @@ impl PreparedMessage {
             (λ b. Encodes (packets.Publish (record { message = self; delivery = delivery })) b) }
     {
         let PreparedMessage { message, encoded } = self;
-        match encoded {
-            Some(encoded) if encoded.delivery == delivery => (message, Some(encoded.block)),
-            _ => (message, None),
+        let Some(encoded) = encoded else {
+            return (message, None);
+        };
+        let encoded = Box::into_inner(encoded);
+        if encoded.delivery != delivery {
+            return (message, None);
         }
+        let EncodedPublish { block, .. } = encoded;
+        (message, Some(block))
     }
 }
 

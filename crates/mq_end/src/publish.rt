@@ -73,11 +73,12 @@ impl Endpoint {
         self.output.append_encoded(message, Some(delivery), block)
     }
 
-    /// Accepts a message of quality of service 1 or 2 (4.3.2, 4.3.3).
-    fn keep(&mut self, message: PreparedMessage) -> Result<PacketId, AllocError>
+    /// Stores a message of quality of service 1 or 2, and sends it if the end is connected (4.3.2,
+    /// 4.3.3).
+    fn keep(&mut self, message: PreparedMessage) -> Result<Option<PacketId>, AllocError>
         requires kept { message.qos ≡ Q0 → ⊥ }
         requires room { is_full self.old.capacity self.old.end.book ≡ false }
-        ensures ok { IfOk result (λ id. Accepts (Some id) message self.old self.new) }
+        ensures ok { IfOk result (λ answer. Accepts answer message self.old self.new) }
         ensures within { publish_size message < 2 ^ 28 → HasRoom (message ∷ []) 0 self.old → IsOk result }
         ensures err { OnErr result (self.new ≡ self.old) }
     {
@@ -87,7 +88,7 @@ impl Endpoint {
         let (message, block) = message.into_parts(Some(Delivery { id, dup: false }));
         self.send(id, &message, block)?;
         match self.session.sender.accept_as(id, message, is_up) {
-            Ok(()) => Ok(id),
+            Ok(()) => Ok(Some(id)),
             Err(error) => {
                 self.output.truncate(before);
                 Err(error)
@@ -95,34 +96,17 @@ impl Endpoint {
         }
     }
 
-    /// Sends a QoS 0 message (4.3.1); as this block if one is given.
-    fn send_once(&mut self, message: &Message, block: Option<Block>) -> Result<(), AllocError>
-        requires once { message.now.qos ≡ Q0 }
-        requires encoded { IfSome block
-            (λ b. Encodes (packets.Publish (record { message = message.now; delivery = None })) b) }
-        ensures ok { OnOk result (Accepts None message.now self.old self.new) }
-        ensures within { publish_size message.now < 2 ^ 28
-            → length self.old.output + whole_size (publish_size message.now) ≤ self.old.room.bytes → IsOk result }
-        ensures err { OnErr result (self.new ≡ self.old) }
-    {
-        self.output.append_encoded(message, None, block)
-    }
-
-    /// Publishes a message that is not refused. Returns its identifier if it has one.
-    fn accept(&mut self, message: PreparedMessage) -> Result<Option<PacketId>, AllocError>
-        requires accepted { publish_refusal self.old.limit.most self.old.capacity message self.old.end ≡ None }
-        requires most { self.old.limit.most < 2 ^ 28 }
+    /// Sends a QoS 0 message (4.3.1).
+    fn send_once(&mut self, message: PreparedMessage) -> Result<Option<PacketId>, AllocError>
+        requires once { message.qos ≡ Q0 }
         ensures ok { IfOk result (λ answer. Accepts answer message self.old self.new) }
-        ensures within { HasRoom (message ∷ []) 0 self.old → IsOk result }
+        ensures within { publish_size message < 2 ^ 28
+            → length self.old.output + whole_size (publish_size message) ≤ self.old.room.bytes → IsOk result }
         ensures err { OnErr result (self.new ≡ self.old) }
     {
-        if message.message().qos == Qos::Q0 {
-            let (message, block) = message.into_parts(None);
-            self.send_once(&message, block)?;
-            return Ok(None);
-        }
-        let id = self.keep(message)?;
-        Ok(Some(id))
+        let (message, block) = message.into_parts(None);
+        self.output.append_encoded(&message, None, block)?;
+        Ok(None)
     }
 
     /// Publishes a message. Returns its identifier if it has QoS 1 or 2 (2.3.1).
@@ -143,8 +127,13 @@ impl Endpoint {
         if let Some(why) = self.publish_refusal(message.message()) {
             return Err(why);
         }
-        match self.accept(message) {
-            Ok(answer) => Ok(answer),
+        let accepted = if message.message().qos == Qos::Q0 {
+            self.send_once(message)
+        } else {
+            self.keep(message)
+        };
+        match accepted {
+            Ok(id) => Ok(id),
             Err(_) => Err(PublishRefusal::Memory),
         }
     }

@@ -39,13 +39,7 @@ impl Endpoint {
         ensures err { IfErr result (λ e. IsFront self.old.limit (self.old.held ++ piece.now) (Err e)) }
         ensures state { self.new ≡ record self.old { held = self.new.held } }
     {
-        match self.decoder.next_packet(piece) {
-            Ok(next) => Ok(next),
-            Err(error) => {
-                self.decoder.reset();
-                Err(error)
-            }
-        }
+        self.decoder.next_packet(self.alloc, piece)
     }
 
     /// Whether a malformed packet is answered: a first CONNECT of another protocol level is
@@ -149,23 +143,22 @@ impl Endpoint {
         let mut came = false;
         loop {
             let (_, rest) = piece.split_at(used);
-            match self.take_next(role, rest, told) {
+            let size = match self.take_next(role, rest, told) {
+                Ok(Some((size, None))) => size,
                 Ok(Some((_, Some(reason)))) => return Some(reason),
-                Ok(Some((size, None))) => {
-                    used += size;
-                    came = true;
-                    // Nothing is held, and nothing is left to look at.
-                    if used == piece.len() {
-                        self.hear(role, now, came);
-                        return None;
-                    }
-                }
                 Ok(None) => {
                     self.hear(role, now, came);
                     return None;
                 }
                 Err(DecodeError::Memory) => return Some(self.close(CloseReason::Memory)),
                 Err(DecodeError::Fault(fault)) => return Some(self.break_off(role, fault)),
+            };
+            used += size;
+            came = true;
+            if used == piece.len() {
+                // Nothing is held, and nothing is left to look at.
+                self.hear(role, now, came);
+                return None;
             }
         }
     }

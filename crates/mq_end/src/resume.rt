@@ -6,10 +6,11 @@ ghost use Rattle.mq_end.specs.declared.state.State.TheVariants as states;
 ghost use Rattle.mq_end.specs.Resuming.{FitsWithin, NamesAnother};
 
 use crate::endpoint::Endpoint;
+use crate::lazy_decoder::LazyDecoder;
 use crate::output::Output;
 use crate::publish::publish_size;
 use crate::state::State;
-use mq_decode::{Decoder, Limits};
+use mq_decode::Limits;
 use mq_flow::Session;
 use mq_wire::Text;
 use std::alloc::Global;
@@ -64,7 +65,7 @@ impl Endpoint {
             window,
             limits,
             last_activity: 0,
-            decoder: Decoder::new(alloc, limits),
+            decoder: LazyDecoder::new(limits),
             output: Output::new(alloc),
         }
     }

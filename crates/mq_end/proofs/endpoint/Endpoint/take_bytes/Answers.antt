@@ -10,12 +10,12 @@ use Rattle.mq_end.proofs.Along.{closes_made}
 use Rattle.mq_end.proofs.Walking.{Walked, came_of, next_held, next_taken, walked_none, walked_more, walked_shut, walked_all, walked_starved, walked_broken, walked_whole}
 use Rattle.mq_end.proofs.endpoint.Endpoint.take_bytes.Goals as goal
 
-pub loop-reason-init : goal.loop-reason-init
-loop-reason-init c = record { within = omega arith; walked = walked_none c.args.role c.args.piece.now c.args.self.now c.args.told.now }
+pub loop-size-init : goal.loop-size-init
+loop-size-init c = record { within = omega arith; walked = walked_none c.args.role c.args.piece.now c.args.self.now c.args.told.now }
 
 pub returns-in-Ok-Some-default-Some : goal.returns-in-Ok-Some-default-Some
 returns-in-Ok-Some-default-Some c =
-    let at = c.loop-reason in
+    let at = c.loop-size in
     let role = c.args.role in
     let old = c.args.self.now in
     let piece = c.args.piece.now in
@@ -29,9 +29,9 @@ returns-in-Ok-Some-default-Some c =
     let next = next_taken role piece old at.self new c.args.told.now at.told told at.came n rest why at.invariant.walked x in
     walked_shut role c.args.now piece old _ new c.args.told.now at.told told x.packet (drop n rest) c.in-Ok-Some-default-Some.reason c.reads_again.ensures next (came_of role rest n why at.self new at.told told x)
 
-pub loop-reason-smaller : goal.loop-reason-smaller
-loop-reason-smaller c =
-    let at = c.loop-reason in
+pub loop-size-smaller : goal.loop-size-smaller
+loop-size-smaller c =
+    let at = c.loop-size in
     let role = c.args.role in
     let rest = c.split_at.result.1.now in
     let new = c.take_next.new.self in
@@ -41,9 +41,9 @@ loop-reason-smaller c =
     let some = c.reads_again.ensures.some at.self.limit x.packet (at.self.held ++ take n rest) x.reads in
     omega (arith, some, x.within, at.invariant.within, ap length (next_held role rest n at.self new at.told told x), length-append at.self.held (take n rest), length-take n rest, c.split_at.ensures.back_len)
 
-pub loop-reason-preserved : goal.loop-reason-preserved
-loop-reason-preserved c =
-    let at = c.loop-reason in
+pub loop-size-preserved : goal.loop-size-preserved
+loop-size-preserved c =
+    let at = c.loop-size in
     let role = c.args.role in
     let old = c.args.self.now in
     let piece = c.args.piece.now in
@@ -62,7 +62,7 @@ loop-reason-preserved c =
 
 pub returns-in-Ok-None : goal.returns-in-Ok-None
 returns-in-Ok-None c =
-    let at = c.loop-reason in
+    let at = c.loop-size in
     let old = c.args.self.now in
     let piece = c.args.piece.now in
     let rest = drop at.used piece in
@@ -73,12 +73,12 @@ returns-in-Ok-None c =
     let kept : c.take_next.new.told ≡ at.told = rw c.in-Ok-None.field-0-is at c.in-Ok-None.ensures.told in
     let holds = ap (λ (s : EndState). s.held) all ∙ ap (λ (b : List ℕ). at.self.held ++ b) c.split_at.ensures.back in
     let state = all ∙ ap (λ (h : List ℕ). record at.self { held = h }) (sym (ap (λ (s : EndState). s.held) all)) in
-    subst (λ (t : ProgressBuilder). Hears c.args.role c.args.now piece old c.hear-in-Ok-None.new.self c.args.told.now t None) (sym kept)
-    (walked_all c.args.role c.args.now piece old at.self mid c.hear-in-Ok-None.new.self c.args.told.now at.told at.came rest at.invariant.walked pending holds state c.hear-in-Ok-None.ensures)
+    subst (λ (t : ProgressBuilder). Hears c.args.role c.args.now piece old c.hear.new.self c.args.told.now t None) (sym kept)
+    (walked_all c.args.role c.args.now piece old at.self mid c.hear.new.self c.args.told.now at.told at.came rest at.invariant.walked pending holds state c.hear.ensures)
 
 pub returns-in-Err-Memory : goal.returns-in-Err-Memory
 returns-in-Err-Memory c =
-    let at = c.loop-reason in
+    let at = c.loop-size in
     let old = c.args.self.now in
     let piece = c.args.piece.now in
     let rest = drop at.used piece in
@@ -92,7 +92,7 @@ returns-in-Err-Memory c =
 
 pub returns-in-Err-Fault : goal.returns-in-Err-Fault
 returns-in-Err-Fault c =
-    let at = c.loop-reason in
+    let at = c.loop-size in
     let old = c.args.self.now in
     let piece = c.args.piece.now in
     let rest = drop at.used piece in
@@ -106,7 +106,7 @@ returns-in-Err-Fault c =
 
 pub returns-then-used-piece : goal.returns-then-used-piece
 returns-then-used-piece c =
-    let at = c.loop-reason in
+    let at = c.loop-size in
     let role = c.args.role in
     let old = c.args.self.now in
     let piece = c.args.piece.now in
@@ -119,4 +119,4 @@ returns-then-used-piece c =
     let next = next_taken role piece old at.self new c.args.told.now at.told told at.came n rest None at.invariant.walked x in
     let walked = walked_more role piece old _ new c.args.told.now at.told told x.packet (drop n rest) next (came_of role rest n None at.self new at.told told x) in
     let none : drop n rest ≡ [] = nil_from_length (drop n rest) (omega (arith, length-drop n rest, length-drop at.used piece, c.if-used-piece.true)) in
-    walked_whole role c.args.now piece old new _ c.args.told.now told true (drop n rest) c.reads_again.ensures walked (next_held role rest n at.self new at.told told x) none c.hear.ensures
+    walked_whole role c.args.now piece old new _ c.args.told.now told true (drop n rest) c.reads_again.ensures walked (next_held role rest n at.self new at.told told x) none c.hear-then-used-piece.ensures
