@@ -26,13 +26,13 @@ use Rattle.mq_route.specs.Arrives.{accept_connect, on_first_packet, goes_on, res
 use Rattle.mq_route.specs.Hub.{HubSession, HubState, key_of, stage_of, up_on}
 use Rattle.mq_route.specs.Welcome.{client_of, ends_on, ends_with, is_crowded, is_unavailable, needs_new, refusal_by_tables, refusal}
 use Rattle.mq_route.specs.Work.{Work, close, put_on, remove}
+use Rattle.mq_tables.proofs.SessionRoom.{some_same}
 use Rattle.mq_hub.specs.Inside.Refinement.{Refines}
 use Rattle.mq_hub.specs.Inside.Invariant.{IsWillWithin}
 use Rattle.mq_hub.specs.Inside.ConnectRoom.{has_session}
 use Rattle.mq_hub.specs.Inside.ConnectChecks.{is_connect, refused}
 use Rattle.mq_hub.proofs.Checks.{by_login, by_place, rejected}
 use Rattle.mq_hub.proofs.FirstPackets.{goes_as}
-use Rattle.mq_hub.proofs.SessionRoom.{some_same}
 use Rattle.mq_hub.proofs.KeptState.{closed_is_shut, goes_shut}
 
 -- ---- the facts of a CONNECT that is not refused

@@ -4,10 +4,11 @@ use Rattle.std.specs.List.{AllByRecursion}
 use Rattle.mq_route.specs.declared.config.HubConfig.{HubConfig}
 use Rattle.mq_route.specs.Begun.{MayBegin}
 use Rattle.mq_route.specs.Hub.{HubConnection, HubState}
-use Rattle.mq_hub.specs.declared.sessions.session.BrokerSession.{BrokerSession}
+use Rattle.mq_tables.specs.declared.sessions.session.BrokerSession.{BrokerSession}
+use Rattle.mq_tables.specs.Sessions.{AreBelow, sessions_of}
+use Rattle.mq_tables.specs.Tables.{HubTables}
 use Rattle.mq_hub.specs.Inside.Invariant.{HubInvariant, SessionMatchesConnection}
-use Rattle.mq_hub.specs.Inside.Sessions.{AreBelow, sessions_of}
-use Rattle.mq_hub.specs.Inside.View.{HubTables, all_seen, hub_of}
+use Rattle.mq_hub.specs.Inside.View.{all_seen, hub_of}
 
 none_seen : (ts : List BrokerSession) (xs : List HubConnection) → all_seen ts xs ≡ [] → xs ≡ []
 none_seen ts [] e = refl

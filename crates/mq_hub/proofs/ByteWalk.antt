@@ -7,9 +7,9 @@ use Rattle.mq_decode.specs.Limits.{Bounds}
 use Rattle.mq_route.specs.declared.act.Act.{Act}
 use Rattle.mq_route.specs.declared.conn.Conn.{Conn}
 use Rattle.mq_route.specs.Hub.{HubState, is_open, stage_of}
+use Rattle.mq_tables.proofs.PendingBytes.{takes_some}
 use Rattle.mq_hub.specs.Inside.Input.{RefinesBytes, HandlesPacket, with_held}
 use Rattle.mq_hub.proofs.InputBytes.{arrives_by, waits_by, lets_go_by}
-use Rattle.mq_hub.proofs.PendingBytes.{takes_some}
 
 -- a result of these bytes and further ones is a result of all bytes
 abbrev pub LeadsOn : Bounds → Conn → ℕ → List ℕ → HubState → List Act → List ℕ → HubState → List Act → Type 0

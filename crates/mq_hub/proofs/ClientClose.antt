@@ -2,9 +2,10 @@
 use Rattle.std.proofs.Common.{◌≡◌, ◌||◌, ℕ, ◌<◌, Bool, true, false, cond, List, [], ◌∷◌, ◌++◌, Option, Some, None, refl, sym, ap, ap₂, subst, ◌∙◌, eqb, eq-eqb, true≢false}
 use Rattle.std.proofs.lemmas.Bool.{cond-true, cond-false, cond_both, ne_eqb}
 use Rattle.std.specs.List.{AllByRecursion}
-use Rattle.std.specs.Option.{is_some, IfSome}
+use Rattle.std.specs.Option.{is_some}
 use Rattle.mq_topic.specs.Rows.{without_client}
 use Rattle.mq_packet.specs.declared.connect.Will.{Will}
+use Rattle.mq_flow.specs.Sender.{SenderBook, blank_book, no_claims}
 use Rattle.mq_end.specs.declared.reason.CloseReason.TheVariants.{Left}
 use Rattle.mq_end.specs.declared.state.State.TheVariants.{Disconnected, Connected}
 use Rattle.mq_end.specs.End.{End, over}
@@ -21,35 +22,26 @@ use Rattle.mq_route.specs.declared.connection_state.ConnectionTerms.{ConnectionT
 use Rattle.mq_route.specs.Hub.{HubState, HubSession, HubConnection, changed, end_of, is_clean, is_for, is_connection, key_on, knows, stage_of, up_on, with_end, with_connection, without_session, stage_for, keep_alive_on}
 use Rattle.mq_route.specs.Routed.{same_conn}
 use Rattle.mq_route.specs.Work.{Work, last_will, leaves_behind, remove, said, shut, shut_down, will_after}
-use Rattle.mq_hub.specs.declared.sessions.session.BrokerSession.{BrokerSession}
+use Rattle.mq_tables.specs.declared.sessions.session.BrokerSession.{BrokerSession}
+use Rattle.mq_tables.specs.Connections.{left_with}
+use Rattle.mq_tables.specs.Connecting.{parted}
+use Rattle.mq_tables.specs.Tables.{HubTables}
+use Rattle.mq_tables.specs.Sessions.{sessions_of, session_at, with_server, without_key}
+use Rattle.mq_tables.proofs.TakenOutput.{output_found}
+use Rattle.mq_tables.proofs.ConnectionTable.{unknown}
+use Rattle.mq_tables.proofs.OtherEnd.{below_as, key_is, holds_at}
+use Rattle.mq_tables.proofs.ClosedConnection.{closed}
+use Rattle.mq_tables.proofs.SessionLemmas.{ascending_with, ascending_without}
+use Rattle.mq_tables.proofs.ClientClose.{sessions_with, without_with}
 use Rattle.mq_hub.specs.Inside.Refinement.{Refines}
 use Rattle.mq_hub.specs.Inside.Invariant.{AreApart, HubInvariant, ConnectionHasSession, IsQuiet, SessionMatchesConnection, IsWillWithin}
-use Rattle.mq_hub.specs.Inside.Close.{left_with, parted, parts, will_left}
-use Rattle.mq_hub.specs.Inside.View.{HubTables, all_seen, hub_of, seen, waiting_by}
-use Rattle.mq_hub.specs.Inside.Sessions.{session_of, sessions_of, session_at, with_server, without_key}
+use Rattle.mq_hub.specs.Inside.Close.{parts, will_left}
+use Rattle.mq_hub.specs.Inside.View.{all_seen, hub_of, seen, waiting_by}
 use Rattle.mq_hub.proofs.ConnectionChange.{rest_unknown, seen_changed, seen_served, up_there}
-use Rattle.mq_hub.proofs.TakenOutput.{output_found}
-use Rattle.mq_hub.proofs.ConnectionTable.{unknown}
 use Rattle.mq_hub.proofs.InvariantChanges.{kept_by}
-use Rattle.mq_hub.proofs.RefusedConnect.{changed_twice}
 use Rattle.mq_hub.proofs.RemovedSession.{all_without, backed_without, owned_without, seen_without, sessions_without}
-use Rattle.mq_hub.proofs.OtherEnd.{all_backed_as, all_owned_as, all_fitting_with, below_as, key_is, holds_at}
-use Rattle.mq_hub.proofs.ClosedConnection.{closed}
-use Rattle.mq_hub.proofs.SessionLemmas.{ascending_with, ascending_without}
+use Rattle.mq_hub.proofs.OtherEnd.{all_backed_as, all_owned_as, all_fitting_with}
 use Rattle.mq_hub.proofs.PlacedCopies.{end_there}
-use Rattle.mq_flow.specs.Sender.{SenderBook, blank_book, no_claims}
-
--- ---- connections
-
--- a connected connection is known
-pub up_known : (k : Conn) (key : ℕ) (xs : List HubConnection) → key_on (stage_of k xs) ≡ Some key → knows k xs ≡ true
-up_known k key [] up = absurd cc
-up_known k key (x ∷ xs) up = go (is_connection k x) refl (up_known k key xs)
-  where
-    go : (b : Bool) → is_connection k x ≡ b → (key_on (stage_of k xs) ≡ Some key → knows k xs ≡ true) → knows k (x ∷ xs) ≡ true
-    go true same rest = ap (λ (b : Bool). b || knows k xs) same
-    go false differ rest =
-        ap (λ (b : Bool). b || knows k xs) differ ∙ rest (ap key_on (sym (cond-false (is_connection k x) x.stage (stage_of k xs) differ)) ∙ up)
 
 -- a client that is not connected has the state `Closed`
 away_shut : (key : ℕ) (xs : List HubConnection) → up_on key xs ≡ None → stage_for key xs ≡ Closed
@@ -195,26 +187,6 @@ module _ (k : Conn) (key : ℕ) (terms : ConnectionTerms) (last_activity : ℕ) 
 
 far_from : (key c : ℕ) → eqb c key ≡ false → eqb key c ≡ false
 far_from key c far = ne_eqb key c (λ w. true≢false (sym (eq-eqb c key (sym w)) ∙ far))
-
--- ---- sessions
-
--- an end is exchanged as in the definition
-pub sessions_with : (key : ℕ) (e : EndState) (ts : List BrokerSession) → sessions_of (with_server key e ts) ≡ with_end key e.end (sessions_of ts)
-sessions_with key e [] = refl
-sessions_with key e (s ∷ ts) = ap₂ (λ (x : HubSession) (xs : List HubSession). x ∷ xs) (go (eqb s.key key)) (sessions_with key e ts)
-  where
-    go : (b : Bool) → session_of (cond b (record s { end = e }) s) ≡ cond b (record (session_of s) { end = e.end }) (session_of s)
-    go true = refl
-    go false = refl
-
-without_with : (key : ℕ) (e : EndState) (ts : List BrokerSession) → without_key key (with_server key e ts) ≡ without_key key ts
-without_with key e [] = refl
-without_with key e (s ∷ ts) = go (eqb s.key key) refl (without_with key e ts)
-  where
-    go : (b : Bool) → eqb s.key key ≡ b → without_key key (with_server key e ts) ≡ without_key key ts
-        → without_key key (with_server key e (s ∷ ts)) ≡ without_key key (s ∷ ts)
-    go true same rest = rw same (rw same rest)
-    go false differ rest = rw differ (rw differ (ap (λ (rs : List BrokerSession). s ∷ rs) rest))
 
 gone_with : (key : ℕ) (e : End) (ss : List HubSession) → without_session key (with_end key e ss) ≡ without_session key ss
 gone_with key e [] = refl
@@ -413,20 +385,6 @@ close_parts k why fits key w up = go (stage_of k w.hub.connections) up
         let same : other ≡ key = cc in
         ap (λ (c : ℕ). leaves_behind why fits (ConnectedAs c terms last_activity) (said (acts.Closed k why) (shut k w))) same
     go Closed e = absurd cc
-
--- ---- the table
-
--- the connection has the pending output of the session's end then
-pub left_lines : (k : Conn) (o : Option BrokerSession) (b : List ℕ) (xs ys : List HubConnection) → IfSome o (λ s. b ≡ s.end.output)
-    → ys ≡ with_connection (λ x. record x { waiting = b }) k (with_connection closed k xs) → IfSome o (λ s. ys ≡ with_connection (left_with s.end.output) k xs)
-left_lines k None b xs ys is says = tt
-left_lines k (Some s) b xs ys is says =
-    says ∙ changed_twice k closed (λ x. record x { waiting = b }) (λ x. refl) xs ∙ ap (λ (c : List ℕ). with_connection (left_with c) k xs) is
-
--- for the session of a connected connection
-pub lines_there : (k : Conn) (key : ℕ) (s : BrokerSession) (ts : List BrokerSession) (xs ys : List HubConnection) → session_at key ts ≡ Some s
-    → IfSome (session_at key ts) (λ r. ys ≡ with_connection (left_with r.end.output) k xs) → ys ≡ with_connection (left_with s.end.output) k xs
-lines_there k key s ts xs ys there says = subst (λ (o : Option BrokerSession). IfSome o (λ r. ys ≡ with_connection (left_with r.end.output) k xs)) there says
 
 -- ---- the will
 

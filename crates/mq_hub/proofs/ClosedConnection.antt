@@ -1,5 +1,5 @@
 -- A connection without client is closed.
-use Rattle.std.proofs.Common.{◌≡◌, ◌||◌, ℕ, Bool, true, false, cond, List, [], ◌∷◌, ◌++◌, Some, None, refl, sym, ap, ap₂, subst, ◌∙◌, true≢false}
+use Rattle.std.proofs.Common.{◌≡◌, ℕ, Bool, true, false, cond, List, [], ◌∷◌, ◌++◌, Some, None, refl, sym, ap, ap₂, subst, ◌∙◌, true≢false}
 use Rattle.std.proofs.lemmas.Bool.{cond-true, cond-false, cond_both}
 use Rattle.std.specs.List.{AllByRecursion}
 use Rattle.mq_route.specs.declared.act.Act.{Act}
@@ -9,21 +9,19 @@ use Rattle.mq_route.specs.declared.config.HubConfig.{HubConfig}
 use Rattle.mq_route.specs.declared.conn.Conn.{Conn}
 use Rattle.mq_route.specs.declared.connection_state.ConnectionState.{ConnectionState}
 use Rattle.mq_route.specs.declared.connection_state.ConnectionState.TheVariants.{AwaitingConnect, ConnectedAs, Closed}
-use Rattle.mq_route.specs.Hub.{HubState, HubConnection, changed, is_for, is_connection, key_on, knows, stage_of, up_on, with_connection, stage_for}
-use Rattle.mq_route.specs.Routed.{same_conn}
+use Rattle.mq_route.specs.Hub.{HubState, HubConnection, is_for, is_connection, key_on, stage_of, up_on, with_connection, stage_for}
 use Rattle.mq_route.specs.Work.{Work, close, leaves_behind, said, shut, shut_down}
-use Rattle.mq_hub.specs.declared.sessions.session.BrokerSession.{BrokerSession}
+use Rattle.mq_tables.specs.declared.sessions.session.BrokerSession.{BrokerSession}
+use Rattle.mq_tables.specs.Tables.{HubTables}
+use Rattle.mq_tables.specs.Sessions.{sessions_of}
+use Rattle.mq_tables.proofs.ConnectionTable.{unknown}
+use Rattle.mq_tables.proofs.ClosedConnection.{closed, known_closed}
 use Rattle.mq_hub.specs.Inside.Refinement.{Refines}
 use Rattle.mq_hub.specs.Inside.Invariant.{AreApart, HubInvariant, ConnectionHasSession, IsQuiet}
-use Rattle.mq_hub.specs.Inside.View.{HubTables, all_seen, hub_of, seen}
-use Rattle.mq_hub.specs.Inside.Sessions.{sessions_of}
+use Rattle.mq_hub.specs.Inside.View.{all_seen, hub_of, seen}
 use Rattle.mq_hub.proofs.ConnectionChange.{own_bytes, rest_unknown, seen_still}
-use Rattle.mq_hub.proofs.ConnectionTable.{unknown}
 use Rattle.mq_hub.proofs.DisconnectTimes.{idle_close}
 use Rattle.mq_hub.proofs.InvariantChanges.{all_fitting_same, kept_by}
-
-abbrev pub closed : HubConnection → HubConnection
-closed x = record x { stage = Closed; held = [] }
 
 -- it is connected for no client
 pub not_up : (s : ConnectionState) (c : ℕ) → key_on s ≡ None → is_for c s ≡ false
@@ -32,13 +30,6 @@ not_up (ConnectedAs key terms last_activity) c e = absurd cc
 not_up Closed c e = refl
 
 module _ (k : Conn) where
-  closed_name : (x : HubConnection) → (changed closed k x).conn ≡ x.conn
-  closed_name x = cond_both (is_connection k x) (closed x) x (λ (y : HubConnection). y.conn ≡ x.conn) (λ e. refl) (λ e. refl)
-
-  pub known_closed : (n : Conn) (xs : List HubConnection) → knows n (with_connection closed k xs) ≡ knows n xs
-  known_closed n [] = refl
-  known_closed n (x ∷ xs) = λ i. same_conn (closed_name x i) n || known_closed n xs i
-
   -- look-ups by a client are unchanged
   module _ {X : Type 0} (c : ℕ) (p : HubConnection → X) (g : List HubConnection → X) (step : (x : HubConnection) (xs : List HubConnection) → g (x ∷ xs) ≡ cond (is_for c x.stage) (p x) (g xs)) where
     found_closed : (xs : List HubConnection) → AreApart xs → key_on (stage_of k xs) ≡ None → g (with_connection closed k xs) ≡ g xs
@@ -85,7 +76,7 @@ module _ (k : Conn) where
       go false differ rest =
           let later : key_on (stage_of k xs) ≡ None = ap key_on (sym (cond-false (is_connection k x) x.stage (stage_of k xs) differ)) ∙ idle in
           subst (λ (y : HubConnection). AreApart (y ∷ with_connection closed k xs)) (sym (cond-false (is_connection k x) (closed x) x differ))
-          (known_closed x.conn xs ∙ apart.0, λ key e. up_closed key xs apart.2 later ∙ apart.1 key e, rest later)
+          (known_closed k x.conn xs ∙ apart.0, λ key e. up_closed key xs apart.2 later ∙ apart.1 key e, rest later)
 
   module _ (config : HubConfig) (next : ℕ) (t u : HubTables) (kept : HubInvariant config next t) (idle : key_on (stage_of k t.connections.connections) ≡ None) (rows : u.rows ≡ t.rows)
       (retained : u.retained.messages ≡ t.retained.messages) (list : u.sessions.list ≡ t.sessions.list) (connections : u.connections.connections ≡ with_connection closed k t.connections.connections) where

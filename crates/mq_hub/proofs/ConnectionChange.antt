@@ -8,11 +8,12 @@ use Rattle.mq_route.specs.declared.connection_state.ConnectionState.{ConnectionS
 use Rattle.mq_route.specs.declared.connection_state.ConnectionState.TheVariants.{AwaitingConnect, ConnectedAs, Closed}
 use Rattle.mq_route.specs.declared.connection_state.ConnectionTerms.{ConnectionTerms}
 use Rattle.mq_route.specs.Hub.{HubConnection, is_for, is_connection, key_on, knows, stage_of, up_on, waiting_on, with_connection}
-use Rattle.mq_hub.specs.declared.sessions.session.BrokerSession.{BrokerSession}
+use Rattle.mq_tables.specs.declared.sessions.session.BrokerSession.{BrokerSession}
+use Rattle.mq_tables.specs.Output.{output_of}
+use Rattle.mq_tables.specs.Sessions.{session_at, with_server}
+use Rattle.mq_tables.proofs.ConnectionTable.{one_conn, unknown}
 use Rattle.mq_hub.specs.Inside.Invariant.{AreApart, HasSession}
-use Rattle.mq_hub.specs.Inside.View.{all_seen, output_of, seen, waiting_by}
-use Rattle.mq_hub.specs.Inside.Sessions.{session_at, with_server}
-use Rattle.mq_hub.proofs.ConnectionTable.{one_conn, unknown}
+use Rattle.mq_hub.specs.Inside.View.{all_seen, seen, waiting_by}
 use Rattle.mq_hub.proofs.TableView.{knows_seen}
 
 -- ---- the connection of a name

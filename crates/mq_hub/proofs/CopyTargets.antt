@@ -19,12 +19,12 @@ use Rattle.mq_end.specs.Sizes.{identifier_size, publish_size}
 use Rattle.mq_route.specs.declared.config.HubConfig.{HubConfig}
 use Rattle.mq_route.specs.Copies.{copy, lesser}
 use Rattle.mq_route.specs.Hub.{for_key, up_on}
-use Rattle.mq_hub.specs.declared.sessions.session.BrokerSession.{BrokerSession}
+use Rattle.mq_tables.specs.declared.sessions.session.BrokerSession.{BrokerSession}
+use Rattle.mq_tables.specs.Tables.{HubTables}
+use Rattle.mq_tables.specs.Sessions.{session_at}
+use Rattle.mq_tables.proofs.SessionRoom.{all_there, key_there}
 use Rattle.mq_hub.specs.Inside.Invariant.{HubInvariant, SessionMatchesConnection, HasSession}
 use Rattle.mq_hub.specs.Inside.Placement.{AreFor, IsFor, copies_found}
-use Rattle.mq_hub.specs.Inside.View.{HubTables}
-use Rattle.mq_hub.specs.Inside.Sessions.{session_at}
-use Rattle.mq_hub.proofs.SessionRoom.{all_there, key_there}
 
 -- ---- clients that are found have rows
 

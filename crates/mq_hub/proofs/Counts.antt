@@ -6,7 +6,7 @@ use Rattle.std.specs.Option.{is_some}
 use Rattle.mq_route.specs.declared.conn.Conn.{Conn}
 use Rattle.mq_route.specs.Hub.{HubConnection, is_clean, key_on, up_on}
 use Rattle.mq_route.specs.Welcome.{ends_on, up_count}
-use Rattle.mq_hub.specs.declared.sessions.session.BrokerSession.{BrokerSession}
+use Rattle.mq_tables.specs.declared.sessions.session.BrokerSession.{BrokerSession}
 use Rattle.mq_hub.specs.Inside.View.{all_seen, seen}
 use Rattle.mq_hub.proofs.ConnectionChange.{stage_seen, up_seen}
 

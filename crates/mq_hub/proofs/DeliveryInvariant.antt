@@ -1,6 +1,5 @@
 -- The invariant after a message is delivered.
-use Rattle.std.proofs.Common.{◌≡◌, ℕ, length, Bool, true, false, cond, not, ◌&&◌, ◌||◌, List, [], ◌∷◌, ◌++◌, filter}
-use Rattle.std.proofs.Common.{Option, Some, None, refl, sym, ap, ap₂, subst, ◌∙◌, eqb, true≢false}
+use Rattle.std.proofs.Common.{◌≡◌, ℕ, length, Bool, true, false, cond, not, ◌&&◌, ◌||◌, List, [], ◌∷◌, ◌++◌, filter, Option, Some, None, refl, sym, ap, ap₂, subst, ◌∙◌, eqb, true≢false}
 use Rattle.std.proofs.lemmas.Bool.{cond_both}
 use Rattle.std.specs.List.{AllByRecursion, list_any}
 use Rattle.std.specs.Option.{is_some}
@@ -9,31 +8,35 @@ use Rattle.mq_topic.specs.declared.qos.Qos.TheVariants.{Q0, Q1, Q2}
 use Rattle.mq_packet.specs.declared.message.Message.{Message}
 use Rattle.mq_packet.specs.declared.packet.Packet.{Packet}
 use Rattle.mq_packet.specs.Encoding.{encodings}
+use Rattle.mq_flow.specs.Next.{next_identifier}
 use Rattle.mq_end.specs.declared.state.State.TheVariants.{Disconnected, Connected}
 use Rattle.mq_end.specs.Both.{has_identifier, publishes_at}
 use Rattle.mq_end.specs.End.{End, is_up}
 use Rattle.mq_end.specs.State.{EndState}
-use Rattle.mq_flow.specs.Next.{next_identifier}
 use Rattle.mq_route.specs.declared.act.Act.{Act}
 use Rattle.mq_route.specs.declared.config.HubConfig.{HubConfig}
 use Rattle.mq_route.specs.declared.conn.Conn.{Conn}
 use Rattle.mq_route.specs.Copies.{is_hidden_name, is_of, kept, replaced}
 use Rattle.mq_route.specs.Hub.{HubState, HubConnection, copies_of, up_on}
 use Rattle.mq_route.specs.Work.{have_room, deliver}
-use Rattle.mq_hub.specs.declared.sessions.session.BrokerSession.{BrokerSession}
+use Rattle.mq_tables.specs.declared.sessions.session.BrokerSession.{BrokerSession}
+use Rattle.mq_tables.specs.Publishing.{IsReady, IsReadyAt, placed_at, published}
+use Rattle.mq_tables.specs.Connections.{ConnectionList}
+use Rattle.mq_tables.specs.Tables.{HubTables}
+use Rattle.mq_tables.specs.Sessions.{sessions_of, session_at, with_server}
+use Rattle.mq_tables.proofs.EndPublishes.{first_of}
+use Rattle.mq_tables.proofs.SessionRoom.{same_change, same_sessions}
+use Rattle.mq_tables.proofs.OtherEnd.{below_as, holds_at}
+use Rattle.mq_tables.proofs.SessionLemmas.{ascending_with}
 use Rattle.mq_hub.specs.Inside.Refinement.{Refines}
 use Rattle.mq_hub.specs.Inside.Invariant.{HubInvariant, SessionMatchesConnection, IsWithin}
-use Rattle.mq_hub.specs.Inside.Placement.{AreApart, AreReady, HasSessions, IsReady, IsReadyAt, placed_all, placed_at, published, with_retained, with_list}
-use Rattle.mq_hub.specs.Inside.Connections.{ConnectionList}
+use Rattle.mq_hub.specs.Inside.Placement.{AreApart, AreReady, HasSessions, placed_all, with_retained, with_list}
 use Rattle.mq_hub.specs.Inside.DeliveryPlan.{AreTablesAlike}
-use Rattle.mq_hub.specs.Inside.View.{HubTables, all_seen, hub_of}
-use Rattle.mq_hub.specs.Inside.Sessions.{sessions_of, session_at, with_server}
+use Rattle.mq_hub.specs.Inside.View.{all_seen, hub_of}
 use Rattle.mq_hub.proofs.InvariantChanges.{kept_by}
-use Rattle.mq_hub.proofs.EndPublishes.{first_of}
-use Rattle.mq_hub.proofs.SessionRoom.{placed_others, same_change, same_sessions}
+use Rattle.mq_hub.proofs.SessionRoom.{placed_others}
 use Rattle.mq_hub.proofs.OtherRoom.{alike_seen, kept_ready}
-use Rattle.mq_hub.proofs.OtherEnd.{all_backed_as, all_owned_as, all_fitting_with, below_as, holds_at}
-use Rattle.mq_hub.proofs.SessionLemmas.{ascending_with}
+use Rattle.mq_hub.proofs.OtherEnd.{all_backed_as, all_owned_as, all_fitting_with}
 
 -- ---- the end of a session is another one
 

@@ -26,19 +26,22 @@ use Rattle.mq_route.specs.declared.connection_state.ConnectionTerms.{ConnectionT
 use Rattle.mq_route.specs.Hub.{HubState, HubSession, HubConnection, end_of, is_for, is_connection, key_on, knows, stage_of, up_on, with_end, with_connection}
 use Rattle.mq_route.specs.Routed.{same_conn}
 use Rattle.mq_route.specs.Work.{Work, does, put_on, put_where, with_sessions}
-use Rattle.mq_hub.specs.declared.sessions.session.BrokerSession.{BrokerSession}
-use Rattle.mq_hub.specs.Inside.Calls.{Replies}
+use Rattle.mq_tables.specs.declared.sessions.session.BrokerSession.{BrokerSession}
+use Rattle.mq_tables.specs.Calls.{Replies}
+use Rattle.mq_tables.specs.Tables.{HubTables}
+use Rattle.mq_tables.specs.Output.{output_of}
+use Rattle.mq_tables.specs.Sessions.{session_of, sessions_of, session_at, with_server}
+use Rattle.mq_tables.proofs.ConnectionTable.{itself, one_conn}
+use Rattle.mq_tables.proofs.SessionRoom.{all_there, key_there, some_same}
+use Rattle.mq_tables.proofs.OtherEnd.{below_as}
+use Rattle.mq_tables.proofs.SessionLemmas.{ascending_with}
 use Rattle.mq_hub.specs.Inside.Refinement.{Refines}
 use Rattle.mq_hub.specs.Inside.Invariant.{AreApart, HubInvariant, SessionMatchesConnection, HasSession}
 use Rattle.mq_hub.specs.Inside.Placement.{with_list}
-use Rattle.mq_hub.specs.Inside.View.{HubTables, all_seen, hub_of, output_of, seen, waiting_by}
-use Rattle.mq_hub.specs.Inside.Sessions.{session_of, sessions_of, session_at, with_server}
+use Rattle.mq_hub.specs.Inside.View.{all_seen, hub_of, seen, waiting_by}
 use Rattle.mq_hub.proofs.ConnectionChange.{output_here, seen_changed, seen_served, up_seen, up_there}
 use Rattle.mq_hub.proofs.TakenOutput.{is_up_for}
-use Rattle.mq_hub.proofs.ConnectionTable.{itself, one_conn}
-use Rattle.mq_hub.proofs.SessionRoom.{all_there, key_there, some_same}
-use Rattle.mq_hub.proofs.OtherEnd.{all_backed_as, all_owned_as, all_fitting_with, below_as}
-use Rattle.mq_hub.proofs.SessionLemmas.{ascending_with}
+use Rattle.mq_hub.proofs.OtherEnd.{all_backed_as, all_owned_as, all_fitting_with}
 
 some_none : {X : Type 0} {x : X} → Some x ≡ None → ⊥
 some_none e = absurd cc

@@ -1,5 +1,5 @@
 -- The first packet of a connection, in terms of the step's definition.
-use Rattle.std.proofs.Common.{◌≡◌, ℕ, Bool, true, false, List, [], ◌∷◌, Result, Ok, Err, IfOk, OnOk, OnErr, refl, sym, ap, ap₂, ◌∙◌, append-nil, true≢false}
+use Rattle.std.proofs.Common.{◌≡◌, ℕ, Bool, true, false, List, [], ◌∷◌, refl, sym, ap, ap₂, ◌∙◌, append-nil, true≢false}
 use Rattle.std.proofs.lemmas.Bool.{cond-true, cond-false, cond_both}
 use Rattle.mq_packet.specs.declared.connack.RefusalCode.TheVariants.{UnacceptableProtocolVersion}
 use Rattle.mq_packet.specs.declared.packet.Packet.{Packet}
@@ -17,31 +17,13 @@ use Rattle.mq_route.specs.declared.connection_state.ConnectionState.TheVariants.
 use Rattle.mq_route.specs.Hub.{HubState, HubConnection, changed, end_on, is_connection, no_end, stage_of, with_connection}
 use Rattle.mq_route.specs.Work.{Work, close, put_on}
 use Rattle.mq_route.specs.Arrives.{arrives, on_first_packet, on_malformed, broken, closes_by, dispatch_packet, touched, touched_on, takes}
+use Rattle.mq_tables.proofs.ConnectionTable.{unknown}
 use Rattle.mq_hub.specs.Inside.Refinement.{Refines}
 use Rattle.mq_hub.specs.Inside.Invariant.{AreApart}
 use Rattle.mq_hub.specs.Inside.ConnectChecks.{is_connect, refused}
 use Rattle.mq_hub.proofs.ConnectionChange.{rest_unknown}
-use Rattle.mq_hub.proofs.ConnectionTable.{unknown}
 use Rattle.mq_hub.proofs.Refinements.{goes_then, goes_to}
 use Rattle.mq_hub.proofs.RefusedConnect.{grown}
-
--- ---- answers
-
-pub ok_by : {X E P Q : Type 0} (r : Result X E) → (P → Q) → OnOk r P → OnOk r Q
-ok_by (Ok x) f p = f p
-ok_by (Err e) f p = tt
-
-pub if_ok_by : {X E : Type 0} {P Q : X → Type 0} (r : Result X E) → ((x : X) → P x → Q x) → IfOk r P → IfOk r Q
-if_ok_by (Ok x) f p = f x p
-if_ok_by (Err e) f p = tt
-
-pub err_by : {X E P Q : Type 0} (r : Result X E) → (P → Q) → OnErr r P → OnErr r Q
-err_by (Ok x) f p = tt
-err_by (Err e) f p = f p
-
-pub err_any : {X E P : Type 0} (r : Result X E) → P → OnErr r P
-err_any (Ok x) p = tt
-err_any (Err e) p = p
 
 -- ---- changes that agree
 

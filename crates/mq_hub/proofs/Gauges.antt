@@ -5,11 +5,11 @@ use Rattle.std.proofs.lemmas.List.Sums.{sum_by-cons}
 use Rattle.std.specs.List.{AllByRecursion}
 use Rattle.mq_route.specs.declared.config.HubConfig.{HubConfig}
 use Rattle.mq_route.specs.Hub.{HubConnection}
-use Rattle.mq_hub.specs.declared.sessions.session.BrokerSession.{BrokerSession}
+use Rattle.mq_tables.specs.declared.sessions.session.BrokerSession.{BrokerSession}
+use Rattle.mq_tables.specs.Numbers.{all_stored, stored_at}
+use Rattle.mq_tables.specs.Sessions.{session_of, sessions_of}
 use Rattle.mq_hub.specs.Gauges.{stored_by, stored_in}
 use Rattle.mq_hub.specs.Inside.Invariant.{SessionMatchesConnection}
-use Rattle.mq_hub.specs.Inside.Numbers.{all_stored, stored_at}
-use Rattle.mq_hub.specs.Inside.Sessions.{session_of, sessions_of}
 
 -- the messages of known sessions
 pub stored_seen : (config : HubConfig) (xs : List HubConnection) (ts : List BrokerSession) → AllByRecursion (SessionMatchesConnection config xs) ts

@@ -10,13 +10,13 @@ use Rattle.std.specs.declared.cmp.Ordering.TheVariants.{Less, Equal, Greater}
 use Rattle.mq_topic.specs.declared.qos.Qos.{Qos}
 use Rattle.mq_topic.specs.Rows.{Row, is_key, key_cmp, with_row, without_row}
 use Rattle.mq_packet.specs.declared.packet.Request.{Request}
+use Rattle.mq_packet.specs.declared.packet.Packet.{Packet}
+use Rattle.mq_decode.specs.Limits.{Bounds}
 use Rattle.mq_end.specs.declared.state.State.{State}
 use Rattle.mq_end.specs.declared.state.State.TheVariants.{Disconnected, Connected}
-use Rattle.mq_decode.specs.Limits.{Bounds}
 use Rattle.mq_end.specs.declared.refusal.PublishRefusal.TheVariants as refusals
 use Rattle.mq_end.specs.End.{End, is_up}
 use Rattle.mq_end.specs.Sizes.{unsuback_size}
-use Rattle.mq_packet.specs.declared.packet.Packet.{Packet}
 use Rattle.mq_end.specs.declared.happening.Happening.TheVariants as happens
 use Rattle.mq_end.specs.Server.{answer_refusal, unsubacks}
 use Rattle.mq_route.specs.declared.act.Act.{Act}
@@ -26,25 +26,27 @@ use Rattle.mq_route.specs.declared.conn.Conn.{Conn}
 use Rattle.mq_route.specs.Arrives.{answers}
 use Rattle.mq_route.specs.Hub.{HubState, HubSession, HubConnection, up_on}
 use Rattle.mq_route.specs.Work.{Work, does, said, subscribed, unsubscribed}
-use Rattle.mq_hub.specs.declared.sessions.call.Call.{Call}
-use Rattle.mq_hub.specs.declared.sessions.call.Call.TheVariants.{Takes, Drops}
-use Rattle.mq_hub.specs.declared.sessions.session.BrokerSession.{BrokerSession}
+use Rattle.mq_tables.specs.declared.sessions.call.Call.{Call}
+use Rattle.mq_tables.specs.declared.sessions.call.Call.TheVariants.{Takes, Drops}
+use Rattle.mq_tables.specs.declared.sessions.session.BrokerSession.{BrokerSession}
+use Rattle.mq_tables.specs.Calls.{CanServe, reply_of}
+use Rattle.mq_tables.specs.Retained.{RetainedTable}
+use Rattle.mq_tables.specs.Tables.{HubTables}
+use Rattle.mq_tables.specs.Connections.{ConnectionList}
+use Rattle.mq_tables.specs.Sessions.{sessions_of, session_at, with_server}
+use Rattle.mq_tables.specs.Subscriptions.{with_rows}
+use Rattle.mq_tables.proofs.SessionRoom.{all_there, key_there, same_sessions}
 use Rattle.mq_hub.specs.Inside.Requests.{Answers}
-use Rattle.mq_hub.specs.Inside.Calls.{CanServe, reply_of}
 use Rattle.mq_hub.specs.Inside.Refinement.{Refines}
 use Rattle.mq_hub.specs.Inside.Invariant.{HubInvariant, SessionMatchesConnection, HasSession}
 use Rattle.mq_hub.specs.Inside.Placement.{with_list}
-use Rattle.mq_hub.specs.Inside.Retained.{RetainedTable}
-use Rattle.mq_hub.specs.Inside.View.{HubTables, all_seen, hub_of}
-use Rattle.mq_hub.specs.Inside.Connections.{ConnectionList}
-use Rattle.mq_hub.specs.Inside.Sessions.{sessions_of, session_at, with_server}
-use Rattle.mq_hub.specs.Inside.Subscriptions.{subscribed_acts, unsubscribed_acts, with_rows, without_rows}
+use Rattle.mq_hub.specs.Inside.View.{all_seen, hub_of}
+use Rattle.mq_hub.specs.Inside.Subscriptions.{subscribed_acts, unsubscribed_acts, without_rows}
 use Rattle.mq_hub.proofs.OtherRoom.{alike_seen, kept_ready}
 use Rattle.mq_hub.proofs.ConnectionChange.{up_seen}
 use Rattle.mq_hub.proofs.TakenOutput.{backed_at}
 use Rattle.mq_hub.proofs.Refinements.{goes_then}
 use Rattle.mq_hub.proofs.InvariantChanges.{kept_by}
-use Rattle.mq_hub.proofs.SessionRoom.{all_there, key_there, same_sessions}
 use Rattle.mq_hub.proofs.EndReplies.{Stays, kept_replied, on_at, replied_goes}
 
 -- ---- whose rows they are

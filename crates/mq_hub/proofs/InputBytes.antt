@@ -1,6 +1,5 @@
 -- The bytes of a connection, packet by packet.
-use Rattle.std.proofs.Common.{◌≡◌, ◌⊎◌, ℕ, ◌<◌, ◌≤◌, Bool, true, false, List, [], ◌++◌, inl, inr, length, take, Some, None, refl, sym, ap}
-use Rattle.std.proofs.Common.{subst, ◌∙◌, arith, true≢false}
+use Rattle.std.proofs.Common.{◌≡◌, ◌⊎◌, ℕ, ◌<◌, ◌≤◌, Bool, true, false, List, [], ◌++◌, inl, inr, length, take, Some, None, refl, sym, ap, subst, ◌∙◌, arith, true≢false}
 use Rattle.std.proofs.lemmas.Bool.{cond-true}
 use Rattle.std.proofs.lemmas.List.{append_assoc}
 use Rattle.std.proofs.Math.Seq.{take-length}
@@ -19,9 +18,9 @@ use Rattle.mq_route.specs.Hub.{HubState, HubConnection, held_on, is_open, knows,
 use Rattle.mq_route.specs.Step.{Arrives, Waits, Breaks, Starves, LetsGo, HubStep, holding}
 use Rattle.mq_route.specs.StepSome.{HubStepSome}
 use Rattle.mq_route.specs.Work.{Work, begin, close}
+use Rattle.mq_tables.proofs.ConnectionTable.{unknown_shut}
 use Rattle.mq_hub.specs.Inside.Input.{HandlesBytes, RefinesBytes, HandlesPacket, with_held}
 use Rattle.mq_hub.specs.Inside.Refinement.{Refines}
-use Rattle.mq_hub.proofs.ConnectionTable.{unknown_shut}
 
 module _ (limits : Bounds) (k : Conn) (most : ℕ) where
   open_so_far : (h : HubState) (w : Work) → w.hub ≡ h → is_open (stage_of k h.connections) ≡ true → is_open (stage_of k w.hub.connections) ≡ true

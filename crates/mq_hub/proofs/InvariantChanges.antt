@@ -3,6 +3,8 @@ use Rattle.std.proofs.Common.{◌≡◌, ◌||◌, ℕ, Bool, false, cond, List,
 use Rattle.std.proofs.lemmas.Bool.{or_parts}
 use Rattle.std.specs.List.{AllByRecursion}
 use Rattle.std.specs.Option.{is_some}
+use Rattle.mq_topic.specs.Rows.{Row}
+use Rattle.mq_packet.specs.declared.message.Message.{Message}
 use Rattle.mq_end.specs.declared.state.State.TheVariants.{Disconnected, Connected}
 use Rattle.mq_route.specs.declared.config.HubConfig.{HubConfig}
 use Rattle.mq_route.specs.declared.conn.Conn.{Conn}
@@ -10,13 +12,11 @@ use Rattle.mq_route.specs.declared.connection_state.ConnectionState.{ConnectionS
 use Rattle.mq_route.specs.declared.connection_state.ConnectionState.TheVariants.{AwaitingConnect}
 use Rattle.mq_route.specs.Hub.{HubConnection, is_clean, is_for, knows, up_on, stage_for, keep_alive_on}
 use Rattle.mq_route.specs.Routed.{same_conn}
-use Rattle.mq_topic.specs.Rows.{Row}
-use Rattle.mq_packet.specs.declared.message.Message.{Message}
-use Rattle.mq_hub.specs.declared.sessions.session.BrokerSession.{BrokerSession}
+use Rattle.mq_tables.specs.declared.sessions.session.BrokerSession.{BrokerSession}
+use Rattle.mq_tables.specs.Tables.{HubTables}
+use Rattle.mq_tables.specs.Sessions.{AreAscending, AreBelow}
+use Rattle.mq_tables.proofs.ConnectionTable.{symm}
 use Rattle.mq_hub.specs.Inside.Invariant.{AreApart, HubInvariant, ConnectionHasSession, IsQuiet, SessionMatchesConnection, IsWithin, HasSession}
-use Rattle.mq_hub.specs.Inside.View.{HubTables}
-use Rattle.mq_hub.specs.Inside.Sessions.{AreAscending, AreBelow}
-use Rattle.mq_hub.proofs.ConnectionTable.{symm}
 
 -- ---- tables that are seen as the same
 

@@ -21,14 +21,12 @@ use Rattle.mq_route.specs.declared.close.HubClose.TheVariants.{Own, TargetFull, 
 use Rattle.mq_route.specs.declared.conn.Conn.{Conn}
 use Rattle.mq_route.specs.declared.connection_state.ConnectionState.{ConnectionState}
 use Rattle.mq_route.specs.declared.connection_state.ConnectionState.TheVariants.{AwaitingConnect, ConnectedAs, Closed}
-use Rattle.mq_route.specs.Arrives.{Growth, accept_connect, answers, answers_all, arrives, on_first_packet, is_too_broad, on_passed_packet, dispatch_packet, due, granted, resume_session, greeting, start_session}
-use Rattle.mq_route.specs.Arrives.{goes_on, touched_on, new_session, replies, take_over, takes, terms_of, on_connect}
+use Rattle.mq_route.specs.Arrives.{Growth, accept_connect, answers, answers_all, arrives, on_first_packet, is_too_broad, on_passed_packet, dispatch_packet, due, granted, resume_session, greeting, start_session, goes_on, touched_on, new_session, replies, take_over, takes, terms_of, on_connect}
 use Rattle.mq_route.specs.Copies.{will_message}
 use Rattle.mq_route.specs.Hub.{HubState, HubConnection, changed, copies_of, end_of, is_connection, stage_of, up_on, with_end, with_connection}
 use Rattle.mq_route.specs.Routed.{same_conn}
 use Rattle.mq_route.specs.Welcome.{ends_with, refusal}
-use Rattle.mq_route.specs.Work.{Work, close, does, have_room, is_missed, last_will, leaves_behind, place, place_all, publishes_next, put_on, put_where, remove}
-use Rattle.mq_route.specs.Work.{remove_if, retained_copies, said, deliver, shut, shut_down, staged, subscribed, unsubscribed, will_after, with_sessions}
+use Rattle.mq_route.specs.Work.{Work, close, does, have_room, is_missed, last_will, leaves_behind, place, place_all, publishes_next, put_on, put_where, remove, remove_if, retained_copies, said, deliver, shut, shut_down, staged, subscribed, unsubscribed, will_after, with_sessions}
 use Rattle.mq_hub.specs.Inside.Refinement.{Refines}
 
 -- ---- the states of connections

@@ -14,9 +14,10 @@ use Rattle.mq_route.specs.declared.connection_state.ConnectionState.TheVariants.
 use Rattle.mq_route.specs.Arrives.{arrives, on_first_packet, dispatch_packet, touched, touched_on, takes, on_connected_packet}
 use Rattle.mq_route.specs.Hub.{HubState, HubConnection, is_connection, is_open, key_on, stage_of, with_connection, with_left}
 use Rattle.mq_route.specs.Work.{Work, close, leaves_behind, said, shut, shut_down, with_sessions}
-use Rattle.mq_hub.specs.Inside.Input.{touched_at, with_touched}
+use Rattle.mq_tables.specs.Connections.{touched_at}
+use Rattle.mq_tables.proofs.ConnectionTable.{heard_key}
+use Rattle.mq_hub.specs.Inside.Input.{with_touched}
 use Rattle.mq_hub.specs.Inside.Refinement.{Refines}
-use Rattle.mq_hub.proofs.ConnectionTable.{heard_key}
 
 abbrev pub memory : HubClose
 memory = Own reasons.Memory

@@ -1,6 +1,5 @@
 -- The connections that are late are closed one after another (3.1, 3.1.2.10).
-use Rattle.std.proofs.Common.{◌≡◌, ◌+◌, ◌≤◌, ◌&&◌, ℕ, zero, suc, Bool, true, false, cond, max, true≢false}
-use Rattle.std.proofs.Common.{◌-◌, ◌<◌, List, [], ◌∷◌, ◌++◌, length, map, take, drop, get_or, Option, Some, None, refl, sym, ap, ap₂, subst, ◌∙◌, add-zero, add-one, add-suc, arith, ltb}
+use Rattle.std.proofs.Common.{◌≡◌, ◌+◌, ◌≤◌, ◌&&◌, ℕ, zero, suc, Bool, true, false, cond, max, true≢false, ◌-◌, ◌<◌, List, [], ◌∷◌, ◌++◌, length, map, take, drop, get_or, Option, Some, None, refl, sym, ap, ap₂, subst, ◌∙◌, add-zero, add-one, add-suc, arith, ltb}
 use Rattle.std.proofs.lemmas.Bool.{cond-true, cond-false, cond_both, ltb-true, ltb-false, or_parts}
 use Rattle.std.proofs.lemmas.List.{drop-map, drop_all, get_or_default, length-map}
 use Rattle.std.specs.List.{AllByRecursion, slice_get}
@@ -26,16 +25,16 @@ use Rattle.mq_route.specs.Hub.{HubState, HubConnection, changed, copies_of, end_
 use Rattle.mq_route.specs.Routed.{same_conn}
 use Rattle.mq_route.specs.Step.{Ticks, expire, expired_keys, has_passed, late_reason, remove_all, told}
 use Rattle.mq_route.specs.Step.Ticks.{Done, InTime, Late}
-use Rattle.mq_route.specs.Work.{Work, begin, close, does, have_room, is_missed, last_will, leaves_behind, place, place_all, publishes_next, put_on, put_where, remove}
-use Rattle.mq_route.specs.Work.{remove_if, said, deliver, shut, shut_down, will_after, with_sessions}
-use Rattle.mq_hub.specs.declared.sessions.session.BrokerSession.{BrokerSession}
+use Rattle.mq_route.specs.Work.{Work, begin, close, does, have_room, is_missed, last_will, leaves_behind, place, place_all, publishes_next, put_on, put_where, remove, remove_if, said, deliver, shut, shut_down, will_after, with_sessions}
+use Rattle.mq_tables.specs.declared.sessions.session.BrokerSession.{BrokerSession}
+use Rattle.mq_tables.specs.Alarms.{is_late_on}
+use Rattle.mq_tables.specs.Late.{AreInTime, HasLate}
+use Rattle.mq_tables.proofs.ConnectionTable.{itself}
 use Rattle.mq_hub.specs.Inside.Refinement.{Refines}
 use Rattle.mq_hub.specs.Inside.Invariant.{AreApart}
 use Rattle.mq_hub.specs.Inside.View.{all_seen, seen}
 use Rattle.mq_hub.specs.Deadline.{IsIdleBefore}
-use Rattle.mq_hub.specs.Inside.Alarms.{is_late_on, why_late}
-use Rattle.mq_hub.specs.Inside.Tick.{AreInTime, HasLate, TicksFrom, late_of}
-use Rattle.mq_hub.proofs.ConnectionTable.{itself}
+use Rattle.mq_hub.specs.Inside.Tick.{why_late, TicksFrom, late_of}
 use Rattle.mq_hub.proofs.TableView.{knows_seen}
 
 -- ---- the connections by name, each with its time of opening and its state

@@ -1,8 +1,7 @@
 -- A broker that is made from a snapshot: its connections.
-use Rattle.std.proofs.Common.{◌≡◌, ◌||◌, ℕ, Bool, true, false, cond, List, [], ◌∷◌, ◌++◌, map, Option, Some, None, refl, sym, ap, ap₂, ◌∙◌, eqb, eq-eqb, true≢false}
+use Rattle.std.proofs.Common.{◌≡◌, ◌||◌, ℕ, Bool, true, false, cond, List, [], ◌∷◌, ◌++◌, map, Option, Some, None, refl, sym, ap, ap₂, ◌∙◌, eqb, eq-eqb}
 use Rattle.std.proofs.lemmas.Bool.{cond-true, cond-false, cond_both, or_parts}
 use Rattle.std.specs.Option.{is_some, IfSome}
-use Rattle.mq_end.specs.declared.state.State.{State}
 use Rattle.mq_end.specs.declared.state.State.TheVariants.{Disconnected, Connected}
 use Rattle.mq_end.specs.End.{is_live}
 use Rattle.mq_end.specs.State.{EndState}
@@ -14,17 +13,22 @@ use Rattle.mq_route.specs.declared.connection_state.ConnectionTerms.{ConnectionT
 use Rattle.mq_route.specs.Hub.{HubConnection, HubState, changed, is_clean, is_connection, is_for, knows, stage_for, stage_of, up_on, with_connection, keep_alive_on}
 use Rattle.mq_route.specs.Routed.{same_conn}
 use Rattle.mq_route.specs.Snapshot.{quiet, quieted}
-use Rattle.mq_hub.specs.declared.sessions.session.BrokerSession.{BrokerSession}
+use Rattle.mq_tables.specs.declared.sessions.session.BrokerSession.{BrokerSession}
+use Rattle.mq_tables.specs.Connections.{connected_for}
+use Rattle.mq_tables.specs.Connecting.{continued, HasContinued}
+use Rattle.mq_tables.specs.Sessions.{session_at, sessions_of, with_server}
+use Rattle.mq_tables.specs.Tables.{HubTables}
+use Rattle.mq_tables.proofs.OtherEnd.{below_as, holds_at, key_is}
+use Rattle.mq_tables.proofs.SessionLemmas.{ascending_with}
+use Rattle.mq_tables.proofs.LoadedConnections.{down}
 use Rattle.mq_hub.specs.Inside.Invariant.{AreApart, HubInvariant, IsWillWithin, SessionMatchesConnection}
-use Rattle.mq_hub.specs.Inside.Loading.{connected_for, continued, with_opened, HasContinued, HaveNoOutput}
-use Rattle.mq_hub.specs.Inside.Sessions.{session_at, sessions_of, with_server}
-use Rattle.mq_hub.specs.Inside.View.{HubTables, all_seen, hub_of, seen, waiting_by}
-use Rattle.mq_hub.proofs.ConnectedSession.{IsSwapped, apart_risen, backed_risen, fitting_other, none_for, own_up, quiet_risen, some_none, stage_risen, up_risen}
+use Rattle.mq_hub.specs.Inside.Loading.{with_opened, HaveNoOutput}
+use Rattle.mq_hub.specs.Inside.View.{all_seen, hub_of, seen, waiting_by}
+use Rattle.mq_hub.proofs.ConnectedSession.{apart_risen, backed_risen, fitting_other, none_for, own_up, quiet_risen, some_none, stage_risen, up_risen}
 use Rattle.mq_hub.proofs.ConnectionChange.{output_here, seen_served}
 use Rattle.mq_hub.proofs.InvariantChanges.{kept_by}
-use Rattle.mq_hub.proofs.OtherEnd.{all_backed_as, all_fitting_with, all_owned_as, below_as, holds_at, key_is}
+use Rattle.mq_hub.proofs.OtherEnd.{all_backed_as, all_fitting_with, all_owned_as}
 use Rattle.mq_hub.proofs.RefusedConnect.{seen_fresh}
-use Rattle.mq_hub.proofs.SessionLemmas.{ascending_with}
 use Rattle.mq_hub.proofs.TableView.{seen_append}
 
 -- ---- the end of a session continues a connection
@@ -112,27 +116,6 @@ module _ (k : Conn) (key : ℕ) (terms : ConnectionTerms) (now : ℕ) where
           sessions = sessions_of u.sessions.list;
           connections = waits i;
         }
-
--- the end of a session that is exchanged, and continues a connection
-pub down_end : (key : ℕ) (ts : List BrokerSession) (taken : EndState) → is_some (session_at key ts) ≡ true → IfSome (session_at key ts) (λ s. taken ≡ s.end)
-    → IfSome (session_at key ts) (λ s. is_live s.end.end.state ≡ false) → is_live taken.end.state ≡ false
-down_end key ts taken there own down = go (session_at key ts) there own down
-  where
-    go : (o : Option BrokerSession) → is_some o ≡ true → IfSome o (λ s. taken ≡ s.end) → IfSome o (λ s. is_live s.end.end.state ≡ false) → is_live taken.end.state ≡ false
-    go None some own down = absurd (true≢false (sym some))
-    go (Some s) some own down = ap (λ (e : EndState). is_live e.end.state) own ∙ down
-
-pub has_continued : (terms : ConnectionTerms) (now key : ℕ) (taken back : EndState) (ts vs : List BrokerSession) → IsSwapped key taken back ts vs → back ≡ continued terms now taken
-    → HasContinued terms now key ts vs
-has_continued terms now key taken back ts vs s is = record {
-  session = s.session;
-  there = s.there;
-  after = s.after ∙ ap (λ (e : EndState). with_server key e ts) (is ∙ ap (continued terms now) s.own);
-}
-
--- an end without a client has no connection
-down : (s : State) (o : Option Conn) → s ≡ cond (is_some o) Connected Disconnected → o ≡ None → is_live s ≡ false
-down s o e none = ap is_live (e ∙ ap (λ (p : Option Conn). cond (is_some p) Connected Disconnected) none)
 
 pub is_down : (config : HubConfig) (next key : ℕ) (t : HubTables) → HubInvariant config next t → up_on key t.connections.connections ≡ None
     → IfSome (session_at key t.sessions.list) (λ s. is_live s.end.end.state ≡ false)

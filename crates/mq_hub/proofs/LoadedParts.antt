@@ -1,5 +1,5 @@
 -- A broker that is made from a snapshot: numbers, subscriptions, retained messages and sessions.
-use Rattle.std.proofs.Common.{◌≡◌, ℕ, ◌<◌, ◌≤◌, ◌^◌, true, cond, List, [], ◌∷◌, ◌++◌, length, slice_get, Some, suc, refl, sym, ap, subst, ◌∙◌, ◌-◌, arith}
+use Rattle.std.proofs.Common.{◌≡◌, ℕ, ◌<◌, ◌≤◌, ◌^◌, true, cond, List, [], ◌∷◌, ◌++◌, refl, sym, ap, subst, ◌∙◌, ◌-◌}
 use Rattle.std.specs.Option.{is_some}
 use Rattle.mq_topic.specs.declared.qos.Qos.{Qos}
 use Rattle.mq_topic.specs.Rows.{with_row}
@@ -9,21 +9,16 @@ use Rattle.mq_end.specs.End.{End, resumed}
 use Rattle.mq_route.specs.declared.config.HubConfig.{HubConfig}
 use Rattle.mq_route.specs.Copies.{kept}
 use Rattle.mq_route.specs.Hub.{HubConnection, is_clean, stage_for, up_on, keep_alive_on}
-use Rattle.mq_hub.specs.declared.sessions.session.BrokerSession.{BrokerSession}
+use Rattle.mq_tables.specs.declared.sessions.session.BrokerSession.{BrokerSession}
+use Rattle.mq_tables.specs.Sessions.{sessions_of, AreBelow}
+use Rattle.mq_tables.specs.Tables.{HubTables}
+use Rattle.mq_tables.proofs.SessionLemmas.{below_last}
 use Rattle.mq_hub.specs.Inside.Invariant.{HasSession, HubInvariant, IsWithin, SessionMatchesConnection}
-use Rattle.mq_hub.specs.Inside.Sessions.{sessions_of, AreAscending, AreBelow}
-use Rattle.mq_hub.specs.Inside.View.{HubTables, all_seen, hub_of}
+use Rattle.mq_hub.specs.Inside.View.{all_seen, hub_of}
 use Rattle.mq_hub.proofs.DeliveryInvariant.{all_kept}
 use Rattle.mq_hub.proofs.GrantedRows.{put_owned}
 use Rattle.mq_hub.proofs.InvariantChanges.{kept_by}
 use Rattle.mq_hub.proofs.NewSession.{all_last, backed_last, owned_last}
-use Rattle.mq_hub.proofs.SessionLemmas.{below_last}
-
--- ---- a new broker
-
-pub no_sessions : (ts : List BrokerSession) → sessions_of ts ≡ [] → ts ≡ []
-no_sessions [] e = refl
-no_sessions (t ∷ ts) e = absurd cc
 
 pub no_connections : (ts : List BrokerSession) (xs : List HubConnection) → all_seen ts xs ≡ [] → xs ≡ []
 no_connections ts [] e = refl
@@ -140,18 +135,3 @@ module _ (config : HubConfig) (next : ℕ) (t u : HubTables) (keeps : HubInvaria
           sessions = sessions_of u.sessions.list;
           connections = waits i;
         }
-
--- ---- a key above the last one
-
-pub below_above : (key : ℕ) (ts : List BrokerSession) (t : BrokerSession) → AreAscending ts → slice_get ts (length ts - 1) ≡ Some t → t.key < key → AreBelow key ts
-below_above key [] t up at less = tt
-below_above key (s ∷ []) t up at less =
-    let is : s ≡ t = cc in
-    (subst (λ (r : BrokerSession). r.key < key) (sym is) less, tt)
-below_above key (s ∷ r ∷ ts) t up at less =
-    let size : length (s ∷ r ∷ ts) - 1 ≡ suc (length (r ∷ ts) - 1) = omega arith in
-    let later : slice_get (r ∷ ts) (length (r ∷ ts) - 1) ≡ Some t = sym (ap (slice_get (s ∷ r ∷ ts)) size) ∙ at in
-    let rest : AreBelow key (r ∷ ts) = below_above key (r ∷ ts) t up.1 later less in
-    let first = up.0.0 in
-    let second = rest.0 in
-    (omega arith, rest)

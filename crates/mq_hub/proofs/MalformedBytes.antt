@@ -1,6 +1,5 @@
 -- Malformed bytes on the connection of a connected client: its end closes without an answer.
-use Rattle.std.proofs.Common.{◌≡◌, ◌&&◌, ℕ, Bool, true, false, not, cond, List, [], ◌∷◌, ◌++◌, Option, Some, None, refl, sym, ap, ◌∙◌}
-use Rattle.std.proofs.Common.{append-nil, true≢false}
+use Rattle.std.proofs.Common.{◌≡◌, ◌&&◌, ℕ, Bool, true, false, not, cond, List, [], ◌∷◌, ◌++◌, Option, Some, None, refl, sym, ap, ◌∙◌, append-nil, true≢false}
 use Rattle.std.proofs.lemmas.Bool.{cond-true}
 use Rattle.std.specs.List.{AllByRecursion}
 use Rattle.std.specs.Option.{is_some}
@@ -19,14 +18,14 @@ use Rattle.mq_route.specs.declared.connection_state.ConnectionState.{ConnectionS
 use Rattle.mq_route.specs.Arrives.{on_malformed, broken, closes_by}
 use Rattle.mq_route.specs.Hub.{HubState, HubConnection, end_of, end_on, is_connection, key_on, stage_of, up_on, with_connection}
 use Rattle.mq_route.specs.Work.{Work, close, put_on}
-use Rattle.mq_hub.specs.declared.sessions.session.BrokerSession.{BrokerSession}
+use Rattle.mq_tables.specs.declared.sessions.session.BrokerSession.{BrokerSession}
+use Rattle.mq_tables.specs.Tables.{HubTables}
+use Rattle.mq_tables.specs.Sessions.{sessions_of, session_at}
+use Rattle.mq_tables.proofs.OtherEnd.{key_is, holds_at}
 use Rattle.mq_hub.specs.Inside.Refinement.{Refines}
 use Rattle.mq_hub.specs.Inside.Invariant.{HubInvariant, SessionMatchesConnection}
-use Rattle.mq_hub.specs.Inside.View.{HubTables}
-use Rattle.mq_hub.specs.Inside.Sessions.{sessions_of, session_at}
 use Rattle.mq_hub.proofs.ConnectionChange.{up_there}
 use Rattle.mq_hub.proofs.TakenOutput.{backed_at, is_up_for}
-use Rattle.mq_hub.proofs.OtherEnd.{key_is, holds_at}
 use Rattle.mq_hub.proofs.PlacedCopies.{end_there}
 
 -- nothing is sent

@@ -14,20 +14,23 @@ use Rattle.mq_route.specs.declared.act.Act.TheVariants as acts
 use Rattle.mq_route.specs.declared.config.HubConfig.{HubConfig}
 use Rattle.mq_route.specs.Hub.{HubState, end_of, for_key}
 use Rattle.mq_route.specs.Work.{all_fit, drops_copies, have_room, lacks_room, leaves, publish_bytes}
-use Rattle.mq_hub.specs.declared.publish.rules.CopyRules.{CopyRules}
-use Rattle.mq_hub.specs.declared.publish.rules.QueuedAnswer.{QueuedAnswer}
+use Rattle.mq_tables.specs.declared.rules.CopyRules.{CopyRules}
+use Rattle.mq_tables.specs.declared.space.Space.{Space}
+use Rattle.mq_tables.specs.declared.sessions.session.BrokerSession.{BrokerSession}
+use Rattle.mq_tables.specs.Publishing.{AreSameButRoom, MayGo, placed_at, published, roomless}
+use Rattle.mq_tables.specs.Rules.{bytes_of, fits_left, free_of, left_of, rules_of, skips, space_after, space_of}
+use Rattle.mq_tables.specs.Sessions.{AreAscending, session_at}
+use Rattle.mq_tables.specs.Output.{output_of}
+use Rattle.mq_tables.proofs.SessionRoom.{changed_own, count, end_changed, fits_own, same_sessions}
+use Rattle.mq_tables.proofs.Spaces.{leaves_is, space_next, still_up}
+use Rattle.mq_hub.specs.declared.publish.queued_answer.QueuedAnswer.{QueuedAnswer}
 use Rattle.mq_hub.specs.declared.publish.settle.SettledCopies.{SettledCopies}
 use Rattle.mq_hub.specs.declared.publish.settle.SettledMessages.{SettledMessages}
-use Rattle.mq_hub.specs.declared.publish.space.Space.{Space}
-use Rattle.mq_hub.specs.declared.sessions.session.BrokerSession.{BrokerSession}
-use Rattle.mq_hub.specs.Inside.Placement.{AreApart, AreSameButRoom, HasSessions, HaveQueued, HaveSameBooks, MayGo, Settles, first_fitting, fitting_acts, is_among, is_cut, is_short, kept_copies, misses, placed_acts, placed_at, published, roomless, settled_acts}
-use Rattle.mq_hub.specs.Inside.Rules.{answer_for, bytes_of, fits_left, free_of, left_of, rules_of, skips, space_after, space_of}
+use Rattle.mq_hub.specs.Inside.Placement.{AreApart, HasSessions, HaveQueued, HaveSameBooks, Settles, first_fitting, fitting_acts, is_among, is_cut, is_short, kept_copies, misses, placed_acts, settled_acts}
+use Rattle.mq_hub.specs.Inside.QueuedAnswer.{answer_for}
 use Rattle.mq_hub.specs.Inside.Settlement.{IsSettled, IsSettledAs, may_miss}
-use Rattle.mq_hub.specs.Inside.Sessions.{AreAscending, session_at}
-use Rattle.mq_hub.specs.Inside.View.{output_of}
 use Rattle.mq_hub.proofs.PlacedCopies.{end_there, output_other, output_own}
-use Rattle.mq_hub.proofs.SessionRoom.{changed_own, count, end_changed, enough_own, few_own, fit_none, fits_own, same_sessions}
-use Rattle.mq_hub.proofs.Spaces.{leaves_is, space_next, still_up}
+use Rattle.mq_hub.proofs.SessionRoom.{enough_own, few_own, fit_none}
 
 or_first : (a b : Bool) → (a || b) ≡ false → a ≡ false
 or_first true b e = absurd (true≢false e)

@@ -17,16 +17,17 @@ use Rattle.mq_route.specs.Arrives.{answers, on_connected_packet}
 use Rattle.mq_route.specs.Copies.{copy_by, is_hidden_name}
 use Rattle.mq_route.specs.Hub.{HubState, copies_of, end_of, for_key, up_on}
 use Rattle.mq_route.specs.Work.{close, does, have_room, deliver}
-use Rattle.mq_hub.specs.declared.sessions.call.Call.TheVariants.{Takes}
+use Rattle.mq_tables.specs.declared.sessions.call.Call.TheVariants.{Takes}
+use Rattle.mq_tables.specs.Calls.{CanServe}
+use Rattle.mq_tables.specs.Connections.{ConnectionList}
+use Rattle.mq_tables.specs.Tables.{HubTables}
+use Rattle.mq_tables.specs.Sessions.{sessions_of}
 use Rattle.mq_hub.specs.declared.publish.reception.Reception.TheVariants.{Handed}
 use Rattle.mq_hub.specs.Inside.Requests.{AreAlike, Answers}
-use Rattle.mq_hub.specs.Inside.Calls.{CanServe}
 use Rattle.mq_hub.specs.Inside.Refinement.{Refines}
 use Rattle.mq_hub.specs.Inside.Invariant.{HubInvariant}
-use Rattle.mq_hub.specs.Inside.Connections.{ConnectionList}
 use Rattle.mq_hub.specs.Inside.Reception.{IsReceived}
-use Rattle.mq_hub.specs.Inside.View.{HubTables, hub_of}
-use Rattle.mq_hub.specs.Inside.Sessions.{sessions_of}
+use Rattle.mq_hub.specs.Inside.View.{hub_of}
 use Rattle.mq_hub.specs.Inside.DeliveryPlan.{AreTablesAlike}
 use Rattle.mq_hub.proofs.ConnectionChange.{up_seen}
 use Rattle.mq_hub.proofs.Refinements.{goes_then}

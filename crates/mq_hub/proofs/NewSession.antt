@@ -16,19 +16,22 @@ use Rattle.mq_route.specs.declared.connection_state.ConnectionState.{ConnectionS
 use Rattle.mq_route.specs.declared.connection_state.ConnectionState.TheVariants.{AwaitingConnect, ConnectedAs, Closed}
 use Rattle.mq_route.specs.Arrives.{resume_session, start_session, greeting, new_session}
 use Rattle.mq_route.specs.Hub.{HubState, HubSession, HubConnection, end_of, is_for, new_end, stage_of, up_on, with_end, with_connection}
-use Rattle.mq_hub.specs.declared.sessions.session.BrokerSession.{BrokerSession}
+use Rattle.mq_tables.specs.declared.sessions.session.BrokerSession.{BrokerSession}
+use Rattle.mq_tables.specs.Connecting.{connected_end}
+use Rattle.mq_tables.specs.Tables.{HubTables}
+use Rattle.mq_tables.specs.Output.{output_of}
+use Rattle.mq_tables.specs.Sessions.{session_of, sessions_of, session_at, AreBelow}
+use Rattle.mq_tables.proofs.RefusedConnect.{changed_twice}
+use Rattle.mq_tables.proofs.SessionLemmas.{below_last}
 use Rattle.mq_hub.specs.Inside.Refinement.{Refines}
 use Rattle.mq_hub.specs.Inside.Invariant.{HubInvariant, ConnectionHasSession, SessionMatchesConnection, IsWillWithin, HasSession}
-use Rattle.mq_hub.specs.Inside.ConnectRoom.{connected_end}
-use Rattle.mq_hub.specs.Inside.View.{HubTables, all_seen, hub_of, output_of, seen, waiting_by}
-use Rattle.mq_hub.specs.Inside.Sessions.{session_of, sessions_of, session_at, AreBelow}
+use Rattle.mq_hub.specs.Inside.View.{all_seen, hub_of, seen, waiting_by}
 use Rattle.mq_hub.proofs.ConnectionChange.{stage_seen, up_seen}
 use Rattle.mq_hub.proofs.FirstPackets.{goes_as}
 use Rattle.mq_hub.proofs.Refinements.{goes_then, goes_to}
 use Rattle.mq_hub.proofs.InvariantChanges.{apart_same, kept_by}
-use Rattle.mq_hub.proofs.RefusedConnect.{changed_twice, grown, seen_fresh}
+use Rattle.mq_hub.proofs.RefusedConnect.{grown, seen_fresh}
 use Rattle.mq_hub.proofs.ConnectedSession.{apart_risen, for_key, goes_greeted, greeted_hub, backed_risen, is_anonymous, is_present, none_for, quiet_risen, fitting_other, fitting_risen, stage_by}
-use Rattle.mq_hub.proofs.SessionLemmas.{below_last}
 
 -- ---- a session with a key above all
 

@@ -1,48 +1,21 @@
 -- The invariant with another end of a session.
 use Rattle.std.proofs.Common.{◌≡◌, ℕ, ◌<◌, Bool, true, false, List, [], ◌∷◌, Some, refl, sym, ap, ap₂, subst, ◌∙◌, arith, eqb, eqb-true}
-use Rattle.std.proofs.lemmas.Bool.{cond-true, cond-false, cond_both, ne_eqb}
+use Rattle.std.proofs.lemmas.Bool.{cond-true, cond-false, ne_eqb}
 use Rattle.std.specs.List.{AllByRecursion}
-use Rattle.std.specs.Option.{is_some}
+use Rattle.mq_topic.specs.Rows.{Row}
 use Rattle.mq_end.specs.State.{EndState}
 use Rattle.mq_route.specs.declared.config.HubConfig.{HubConfig}
 use Rattle.mq_route.specs.declared.connection_state.ConnectionState.{ConnectionState}
 use Rattle.mq_route.specs.declared.connection_state.ConnectionState.TheVariants.{AwaitingConnect, ConnectedAs, Closed}
 use Rattle.mq_route.specs.Hub.{HubSession, HubConnection}
-use Rattle.mq_topic.specs.Rows.{Row}
-use Rattle.mq_hub.specs.declared.sessions.session.BrokerSession.{BrokerSession}
+use Rattle.mq_tables.specs.declared.sessions.session.BrokerSession.{BrokerSession}
+use Rattle.mq_tables.specs.Sessions.{session_of, sessions_of, session_at, with_server, AreAscending}
+use Rattle.mq_tables.proofs.OtherEnd.{first_key, some_is, stands_served}
 use Rattle.mq_hub.specs.Inside.Invariant.{ConnectionHasSession, SessionMatchesConnection, HasSession}
-use Rattle.mq_hub.specs.Inside.Sessions.{served_by, session_of, sessions_of, session_at, with_server, AreAscending, AreBelow}
-use Rattle.mq_hub.proofs.SessionLemmas.{with_above}
-
-some_is : (s t : BrokerSession) → Some s ≡ Some t → s ≡ t
-some_is s t e = cc
-
--- the first one has the key, and keys behind it are above
-first_key : (key : ℕ) (s : BrokerSession) (ts : List BrokerSession) (e : EndState) → eqb s.key key ≡ true → AllByRecursion (λ u. s.key < u.key) ts → with_server key e ts ≡ ts
-first_key key s ts e same above =
-    let is = eqb-true s.key key same in
-    with_above key s.key e ts (omega arith) above
 
 module _ (key : ℕ) (e : EndState) where
-  served_key : (s : BrokerSession) → (served_by key e s).key ≡ s.key
-  served_key s = cond_both (eqb s.key key) (record s { end = e }) s (λ (u : BrokerSession). u.key ≡ s.key) (λ h. refl) (λ h. refl)
-
-  -- the same sessions exist
-  pub stands_served : (c : ℕ) (ts : List BrokerSession) → is_some (session_at c (with_server key e ts)) ≡ is_some (session_at c ts)
-  stands_served c [] = refl
-  stands_served c (s ∷ ts) = go (served_by key e s) (served_key s) (eqb s.key c) refl (stands_served c ts)
-    where
-      go : (u : BrokerSession) → u.key ≡ s.key → (b : Bool) → eqb s.key c ≡ b → is_some (session_at c (with_server key e ts)) ≡ is_some (session_at c ts)
-          → is_some (session_at c (u ∷ with_server key e ts)) ≡ is_some (session_at c (s ∷ ts))
-      go u same true at rest =
-          ap is_some (cond-true (eqb u.key c) (Some u) (session_at c (with_server key e ts)) (ap (λ (n : ℕ). eqb n c) same ∙ at))
-          ∙ ap is_some (sym (cond-true (eqb s.key c) (Some s) (session_at c ts) at))
-      go u same false at rest =
-          ap is_some (cond-false (eqb u.key c) (Some u) (session_at c (with_server key e ts)) (ap (λ (n : ℕ). eqb n c) same ∙ at))
-          ∙ rest ∙ ap is_some (sym (cond-false (eqb s.key c) (Some s) (session_at c ts) at))
-
   pub stands_as : (c : ℕ) (ts : List BrokerSession) → HasSession ts c → HasSession (with_server key e ts) c
-  stands_as c ts stands = stands_served c ts ∙ stands
+  stands_as c ts stands = (stands_served key e) c ts ∙ stands
 
   backed_as : (most : ℕ) (ts : List BrokerSession) (s : ConnectionState) → ConnectionHasSession most ts s → ConnectionHasSession most (with_server key e ts) s
   backed_as most ts AwaitingConnect backed = tt
@@ -57,10 +30,6 @@ module _ (key : ℕ) (e : EndState) where
   pub all_owned_as : (ts : List BrokerSession) (rs : List Row) → AllByRecursion (λ r. HasSession ts r.0.0) rs → AllByRecursion (λ r. HasSession (with_server key e ts) r.0.0) rs
   all_owned_as ts [] all = tt
   all_owned_as ts (r ∷ rs) all = (stands_as r.0.0 ts all.0, all_owned_as ts rs all.1)
-
-  pub below_as : (next : ℕ) (ts : List BrokerSession) → AreBelow next ts → AreBelow next (with_server key e ts)
-  below_as next [] all = tt
-  below_as next (s ∷ ts) all = (subst (λ (n : ℕ). n < next) (sym (served_key s)) all.0, below_as next ts all.1)
 
   module _ (t : BrokerSession) where
     -- an end that the definition sees as the one before
@@ -105,21 +74,3 @@ module _ (key : ℕ) (e : EndState) where
             subst (SessionMatchesConnection config ys) (sym (cond-false (eqb s.key key) (record s { end = e }) s at)) (other s at all.0),
             rest (sym (cond-false (eqb s.key key) (Some s) (session_at key ts) at) ∙ there) here all.1,
           )
-
--- the session of a key is among those of which something holds
-pub holds_at : (P : BrokerSession → Type 0) (key : ℕ) (t : BrokerSession) (ts : List BrokerSession) → session_at key ts ≡ Some t → AllByRecursion P ts → P t
-holds_at P key t [] there all = absurd cc
-holds_at P key t (s ∷ ts) there all = go (eqb s.key key) refl (holds_at P key t ts)
-  where
-    go : (b : Bool) → eqb s.key key ≡ b → (session_at key ts ≡ Some t → AllByRecursion P ts → P t) → P t
-    go true at rest = subst P (some_is s t (sym (cond-true (eqb s.key key) (Some s) (session_at key ts) at) ∙ there)) all.0
-    go false at rest = rest (sym (cond-false (eqb s.key key) (Some s) (session_at key ts) at) ∙ there) all.1
-
--- and it has the key
-pub key_is : (key : ℕ) (t : BrokerSession) (ts : List BrokerSession) → session_at key ts ≡ Some t → t.key ≡ key
-key_is key t [] there = absurd cc
-key_is key t (s ∷ ts) there = go (eqb s.key key) refl (key_is key t ts)
-  where
-    go : (b : Bool) → eqb s.key key ≡ b → (session_at key ts ≡ Some t → t.key ≡ key) → t.key ≡ key
-    go true at rest = ap (λ (u : BrokerSession). u.key) (sym (some_is s t (sym (cond-true (eqb s.key key) (Some s) (session_at key ts) at) ∙ there))) ∙ eqb-true s.key key at
-    go false at rest = rest (sym (cond-false (eqb s.key key) (Some s) (session_at key ts) at) ∙ there)

@@ -8,16 +8,18 @@ use Rattle.mq_route.specs.declared.config.HubConfig.{HubConfig}
 use Rattle.mq_route.specs.declared.connection_state.ConnectionState.{ConnectionState}
 use Rattle.mq_route.specs.declared.connection_state.ConnectionState.TheVariants.{AwaitingConnect, ConnectedAs, Closed}
 use Rattle.mq_route.specs.Hub.{HubConnection, is_clean, up_on, stage_for, keep_alive_on}
-use Rattle.mq_hub.specs.declared.sessions.session.BrokerSession.{BrokerSession}
+use Rattle.mq_tables.specs.declared.sessions.session.BrokerSession.{BrokerSession}
+use Rattle.mq_tables.specs.Connections.{ConnectionList}
+use Rattle.mq_tables.specs.Retained.{RetainedTable}
+use Rattle.mq_tables.specs.Publishing.{AreSameButRoom, roomless}
+use Rattle.mq_tables.specs.Tables.{HubTables}
+use Rattle.mq_tables.specs.Output.{output_of}
+use Rattle.mq_tables.specs.Sessions.{session_at, AreAscending}
+use Rattle.mq_tables.proofs.SessionRoom.{same_sessions}
 use Rattle.mq_hub.specs.Inside.Requests.{AreAlike}
 use Rattle.mq_hub.specs.Inside.Invariant.{HubInvariant, ConnectionHasSession, SessionMatchesConnection, HasSession}
-use Rattle.mq_hub.specs.Inside.Connections.{ConnectionList}
-use Rattle.mq_hub.specs.Inside.Retained.{RetainedTable}
-use Rattle.mq_hub.specs.Inside.Placement.{AreSameButRoom, roomless}
-use Rattle.mq_hub.specs.Inside.View.{HubTables, all_seen, hub_of, output_of, waiting_by}
-use Rattle.mq_hub.specs.Inside.Sessions.{session_at, AreAscending}
+use Rattle.mq_hub.specs.Inside.View.{all_seen, hub_of, waiting_by}
 use Rattle.mq_hub.proofs.InvariantChanges.{kept_by}
-use Rattle.mq_hub.proofs.SessionRoom.{same_sessions}
 
 -- ---- other room
 

@@ -6,18 +6,20 @@ use Rattle.mq_route.specs.declared.config.HubConfig.{HubConfig}
 use Rattle.mq_route.specs.declared.conn.Conn.{Conn}
 use Rattle.mq_route.specs.Hub.{key_on, stage_of, waiting_on, with_connection}
 use Rattle.mq_route.specs.Step.{collected}
-use Rattle.mq_hub.specs.declared.sessions.session.BrokerSession.{BrokerSession}
-use Rattle.mq_hub.specs.Inside.Output.{Collects, drained}
+use Rattle.mq_tables.specs.declared.sessions.session.BrokerSession.{BrokerSession}
+use Rattle.mq_tables.specs.Output.{Collects, drained}
+use Rattle.mq_tables.specs.Connections.{ConnectionList}
+use Rattle.mq_tables.specs.Tables.{HubTables}
+use Rattle.mq_tables.specs.Publishing.{roomless}
+use Rattle.mq_tables.specs.Sessions.{sessions_of, session_at, with_server}
+use Rattle.mq_tables.proofs.TakenOutput.{emptied}
+use Rattle.mq_tables.proofs.SessionRoom.{other_room}
 use Rattle.mq_hub.specs.Inside.Invariant.{HubInvariant}
-use Rattle.mq_hub.specs.Inside.Connections.{ConnectionList}
-use Rattle.mq_hub.specs.Inside.View.{HubTables, all_seen, hub_of}
-use Rattle.mq_hub.specs.Inside.Placement.{roomless}
-use Rattle.mq_hub.specs.Inside.Sessions.{sessions_of, session_at, with_server}
+use Rattle.mq_hub.specs.Inside.View.{all_seen, hub_of}
 use Rattle.mq_hub.specs.Inside.DeliveryPlan.{AreTablesAlike}
 use Rattle.mq_hub.proofs.ConnectionChange.{waiting_own}
-use Rattle.mq_hub.proofs.TakenOutput.{emptied, hub_drained, hub_emptied, kept_drained, kept_emptied, waits_up}
+use Rattle.mq_hub.proofs.TakenOutput.{hub_drained, hub_emptied, kept_drained, kept_emptied, waits_up}
 use Rattle.mq_hub.proofs.InvariantChanges.{kept_by}
-use Rattle.mq_hub.proofs.SessionRoom.{other_room}
 use Rattle.mq_hub.proofs.DeliveryInvariant.{hub_alike, kept_alike}
 
 abbrev Answer : Type 0

@@ -10,7 +10,7 @@ use Rattle.mq_end.specs.SizeLaws.{SizeLaws}
 use Rattle.mq_end.specs.Sizes.{publish_size, subscribe_size, unsuback_size, unsubscribe_size}
 use Rattle.mq_route.specs.declared.conn.Conn.{Conn}
 use Rattle.mq_route.specs.Hub.{HubConnection, key_on, stage_of, up_on}
-use Rattle.mq_hub.specs.Inside.Calls.{RequestsNothing}
+use Rattle.mq_hub.specs.Inside.Requests.{RequestsNothing}
 use Rattle.mq_hub.proofs.ConnectionChange.{up_there}
 use Rattle.mq_hub.proofs.TakenOutput.{is_up_for}
 

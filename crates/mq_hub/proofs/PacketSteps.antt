@@ -14,14 +14,16 @@ use Rattle.mq_route.specs.declared.conn.Conn.{Conn}
 use Rattle.mq_route.specs.Arrives.{answers, answers_all, due, due_by, replies, on_passed_packet}
 use Rattle.mq_route.specs.Hub.{HubState, end_of, up_on}
 use Rattle.mq_route.specs.Work.{Work, close, does, have_room}
-use Rattle.mq_hub.specs.declared.sessions.call.Call.TheVariants.{Takes}
+use Rattle.mq_tables.specs.declared.sessions.call.Call.TheVariants.{Takes}
+use Rattle.mq_tables.specs.Tables.{HubTables}
+use Rattle.mq_tables.specs.Sessions.{sessions_of}
+use Rattle.mq_tables.proofs.SessionRoom.{same_sessions}
 use Rattle.mq_hub.specs.Inside.Requests.{Answers}
 use Rattle.mq_hub.specs.Inside.Refinement.{Refines}
 use Rattle.mq_hub.specs.Inside.Invariant.{HubInvariant}
-use Rattle.mq_hub.specs.Inside.View.{HubTables, hub_of}
-use Rattle.mq_hub.specs.Inside.Sessions.{sessions_of}
+use Rattle.mq_hub.specs.Inside.View.{hub_of}
 use Rattle.mq_hub.proofs.GrantedRows.{answered_goes, kept_answered}
-use Rattle.mq_hub.proofs.SessionRoom.{room_none, same_sessions}
+use Rattle.mq_hub.proofs.SessionRoom.{room_none}
 use Rattle.mq_hub.proofs.EndReplies.{end_there, packet_stays}
 
 -- ---- what the definition says of a packet at which the end doesn't close

@@ -21,15 +21,18 @@ use Rattle.mq_route.specs.Copies.{copy, is_hidden_name, kept, retained_for}
 use Rattle.mq_route.specs.Hub.{HubState, HubSession, HubConnection, copies_of, end_of, for_key, is_for, is_connection, knows, up_on, waiting_on, with_end, with_connection}
 use Rattle.mq_route.specs.Routed.{same_conn}
 use Rattle.mq_route.specs.Work.{Work, does, drops_copies, is_missed, lacks_output, leaves, pending_on, place, place_all, publish_bytes, publishes_next, put_on, put_where, retained_copies, said, deliver, with_sessions}
-use Rattle.mq_hub.specs.declared.sessions.session.BrokerSession.{BrokerSession}
+use Rattle.mq_tables.specs.declared.sessions.session.BrokerSession.{BrokerSession}
+use Rattle.mq_tables.specs.Publishing.{IsReadyAt, placed_at, published}
+use Rattle.mq_tables.specs.Tables.{HubTables}
+use Rattle.mq_tables.specs.Output.{output_of}
+use Rattle.mq_tables.specs.Sessions.{AreAscending, session_of, sessions_of, session_at}
+use Rattle.mq_tables.proofs.ConnectionTable.{itself, one_conn}
+use Rattle.mq_tables.proofs.SessionRoom.{changed_at, changed_other, changed_own, only_own, some_same}
 use Rattle.mq_hub.specs.Inside.Invariant.{AreApart, HubInvariant}
 use Rattle.mq_hub.specs.Inside.Refinement.{Refines}
-use Rattle.mq_hub.specs.Inside.Placement.{AreHeard, AreReady, CanPlace, IsReadyAt, Settles, copies_found, is_cut, is_short, kept_copies, misses, placed_all, placed_at, settled_acts, published, with_retained, with_list}
-use Rattle.mq_hub.specs.Inside.View.{HubTables, all_seen, hub_of, output_of, seen, waiting_by}
-use Rattle.mq_hub.specs.Inside.Sessions.{AreAscending, session_of, sessions_of, session_at}
-use Rattle.mq_hub.proofs.ConnectionTable.{itself, one_conn}
+use Rattle.mq_hub.specs.Inside.Placement.{AreHeard, AreReady, CanPlace, Settles, copies_found, is_cut, is_short, kept_copies, misses, placed_all, settled_acts, with_retained, with_list}
+use Rattle.mq_hub.specs.Inside.View.{all_seen, hub_of, seen, waiting_by}
 use Rattle.mq_hub.proofs.PlannedCopies.{found_alike}
-use Rattle.mq_hub.proofs.SessionRoom.{changed_at, changed_other, changed_own, only_own, some_same}
 
 -- ---- the sessions
 

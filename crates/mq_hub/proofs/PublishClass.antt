@@ -13,18 +13,18 @@ use Rattle.mq_route.specs.declared.conn.Conn.{Conn}
 use Rattle.mq_route.specs.Arrives.{replies, on_connected_packet}
 use Rattle.mq_route.specs.Hub.{HubState, HubConnection, end_of, key_on, stage_of, up_on}
 use Rattle.mq_route.specs.Work.{Work, close, put_on}
+use Rattle.mq_tables.specs.declared.sessions.session.BrokerSession.{BrokerSession}
+use Rattle.mq_tables.specs.Tables.{HubTables}
+use Rattle.mq_tables.specs.Sessions.{session_at}
+use Rattle.mq_tables.proofs.SessionRoom.{all_there}
 use Rattle.mq_hub.specs.declared.publish.reception.Reception.TheVariants.{WindowFull}
-use Rattle.mq_hub.specs.declared.sessions.session.BrokerSession.{BrokerSession}
 use Rattle.mq_hub.specs.Inside.Refinement.{Refines}
 use Rattle.mq_hub.specs.Inside.Invariant.{HubInvariant, SessionMatchesConnection}
 use Rattle.mq_hub.specs.Inside.Reception.{CanReceive, IsReceived}
-use Rattle.mq_hub.specs.Inside.View.{HubTables}
-use Rattle.mq_hub.specs.Inside.Sessions.{session_at}
 use Rattle.mq_hub.proofs.MalformedBytes.{put_nothing}
 use Rattle.mq_hub.proofs.ConnectionChange.{up_there}
 use Rattle.mq_hub.proofs.TakenOutput.{is_up_for}
 use Rattle.mq_hub.proofs.GrantedRows.{up_end}
-use Rattle.mq_hub.proofs.SessionRoom.{all_there}
 
 -- ---- the end of a session
 

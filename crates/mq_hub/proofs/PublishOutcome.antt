@@ -1,39 +1,39 @@
 -- A PUBLISH of a connected client whose message is new.
-use Rattle.std.proofs.Common.{◌≡◌, ℕ, ◌+◌, ◌≤◌, Bool, true, false, cond, List, [], ◌∷◌, length, Option, Some, None, Ok}
-use Rattle.std.proofs.Common.{arith, refl, sym, ap, subst, ◌∙◌, eqb, eqb-true, eq-eqb, true≢false, zero-add}
+use Rattle.std.proofs.Common.{◌≡◌, ℕ, ◌+◌, ◌≤◌, Bool, true, false, cond, List, [], ◌∷◌, length, Option, Some, None, Ok, arith, refl, sym, ap, subst, ◌∙◌, eqb, eqb-true, eq-eqb, true≢false, zero-add}
 use Rattle.std.proofs.lemmas.Bool.{cond-true, cond-false, ne_eqb}
 use Rattle.std.proofs.lemmas.List.{length-append}
 use Rattle.mq_wire.specs.Length.{length_bytes}
 use Rattle.mq_topic.specs.declared.qos.Qos.{Qos}
 use Rattle.mq_topic.specs.declared.qos.Qos.TheVariants.{Q0, Q1, Q2}
-use Rattle.mq_decode.specs.Limits.{Bounds}
 use Rattle.mq_packet.specs.declared.message.Message.{Message}
 use Rattle.mq_packet.specs.declared.publish.Delivery.{Delivery}
 use Rattle.mq_packet.specs.declared.packet.Packet.TheVariants as packets
 use Rattle.mq_packet.specs.Encoding.{encoded_size, encodings}
 use Rattle.mq_packet.specs.Publication.{Publication}
+use Rattle.mq_decode.specs.Limits.{Bounds}
+use Rattle.mq_flow.specs.Window.{fits_window}
 use Rattle.mq_end.specs.declared.packet_outcome.PacketOutcome.{PacketOutcome}
 use Rattle.mq_end.specs.declared.reason.CloseReason.TheVariants as reasons
 use Rattle.mq_end.specs.declared.state.State.{State}
 use Rattle.mq_end.specs.declared.state.State.TheVariants.{Disconnected, Connecting, Connected}
 use Rattle.mq_end.specs.Both.{publish_gets, stores}
-use Rattle.mq_flow.specs.Window.{fits_window}
 use Rattle.mq_end.specs.End.{End, Reply, closes, is_up}
 use Rattle.mq_end.specs.Ready.{HasRoom, packets_size}
 use Rattle.mq_end.specs.Server.{ready_refusal, server_gets, server_up_gets}
 use Rattle.mq_end.specs.State.{EndState}
 use Rattle.mq_route.specs.Hub.{end_of}
-use Rattle.mq_hub.specs.declared.sessions.call.Call.TheVariants.{Takes}
-use Rattle.mq_hub.specs.declared.sessions.session.BrokerSession.{BrokerSession}
-use Rattle.mq_hub.specs.Inside.Calls.{CanServe, Serves, ServesAt}
-use Rattle.mq_hub.specs.Inside.Placement.{AreReady, HaveQueued, HaveSameBooks, IsReady, IsReadyAt}
-use Rattle.mq_hub.specs.Inside.Rules.{answer_for, publish_answer}
-use Rattle.mq_hub.specs.Inside.Sessions.{sessions_of, session_at, with_server}
-use Rattle.mq_hub.specs.Inside.View.{output_of}
-use Rattle.mq_hub.proofs.SessionRoom.{changed_other, changed_own, end_changed, some_same}
+use Rattle.mq_tables.specs.declared.sessions.call.Call.TheVariants.{Takes}
+use Rattle.mq_tables.specs.declared.sessions.session.BrokerSession.{BrokerSession}
+use Rattle.mq_tables.specs.Calls.{CanServe, Serves, ServesAt}
+use Rattle.mq_tables.specs.Publishing.{IsReady, IsReadyAt}
+use Rattle.mq_tables.specs.Sessions.{sessions_of, session_at, with_server}
+use Rattle.mq_tables.specs.Output.{output_of}
+use Rattle.mq_tables.proofs.SessionRoom.{changed_other, changed_own, end_changed, some_same}
+use Rattle.mq_tables.proofs.Spaces.{frame_bytes}
+use Rattle.mq_hub.specs.Inside.Placement.{AreReady, HaveQueued, HaveSameBooks}
+use Rattle.mq_hub.specs.Inside.QueuedAnswer.{answer_for, publish_answer}
 use Rattle.mq_hub.proofs.EndReplies.{end_there, gets_up, packet_stays}
 use Rattle.mq_hub.proofs.PlacedCopies.{output_changed, output_own}
-use Rattle.mq_hub.proofs.Spaces.{frame_bytes}
 
 some_none : {X : Type 0} {x : X} → Some x ≡ None → ⊥
 some_none e = absurd cc

@@ -10,10 +10,11 @@ use Rattle.mq_route.specs.declared.connection_state.ConnectionState.{ConnectionS
 use Rattle.mq_route.specs.declared.connection_state.ConnectionState.TheVariants.{AwaitingConnect, ConnectedAs, Closed}
 use Rattle.mq_route.specs.Hub.{HubConnection, HubSession, is_for, key_on, stage_for, up_on}
 use Rattle.mq_route.specs.Snapshot.{kept_end, kept_session, quiet, restored}
-use Rattle.mq_hub.specs.declared.sessions.session.BrokerSession.{BrokerSession}
+use Rattle.mq_tables.specs.declared.sessions.session.BrokerSession.{BrokerSession}
+use Rattle.mq_tables.specs.Sessions.{session_of, sessions_of}
+use Rattle.mq_tables.specs.Tables.{HubTables}
 use Rattle.mq_hub.specs.Inside.Invariant.{HubInvariant, SessionMatchesConnection}
-use Rattle.mq_hub.specs.Inside.Sessions.{session_of, sessions_of}
-use Rattle.mq_hub.specs.Inside.View.{HubTables, all_seen, hub_of, seen}
+use Rattle.mq_hub.specs.Inside.View.{all_seen, hub_of, seen}
 use Rattle.mq_hub.proofs.InvariantChanges.{stage_same}
 
 -- a client is connected if its connection is connected for it

@@ -19,18 +19,21 @@ use Rattle.mq_route.specs.declared.connection_state.ConnectionState.TheVariants.
 use Rattle.mq_route.specs.Hub.{HubState, HubConnection, changed, is_connection, key_on, knows, stage_of, with_connection}
 use Rattle.mq_route.specs.Routed.{same_conn}
 use Rattle.mq_route.specs.Work.{close, put_on}
-use Rattle.mq_hub.specs.declared.sessions.session.BrokerSession.{BrokerSession}
+use Rattle.mq_tables.specs.declared.sessions.session.BrokerSession.{BrokerSession}
+use Rattle.mq_tables.specs.Tables.{HubTables}
+use Rattle.mq_tables.specs.Sessions.{sessions_of}
+use Rattle.mq_tables.proofs.ConnectionTable.{unknown, unknown_shut}
+use Rattle.mq_tables.proofs.ClosedConnection.{closed}
+use Rattle.mq_tables.proofs.RefusedConnect.{changed_twice, filled}
 use Rattle.mq_hub.specs.Inside.Refinement.{Refines}
 use Rattle.mq_hub.specs.Inside.Invariant.{AreApart, HubInvariant, IsQuiet}
-use Rattle.mq_hub.specs.Inside.View.{HubTables, all_seen, hub_of, seen, waiting_by}
-use Rattle.mq_hub.specs.Inside.Sessions.{sessions_of}
+use Rattle.mq_hub.specs.Inside.View.{all_seen, hub_of, seen, waiting_by}
 use Rattle.mq_hub.specs.Inside.ConnectChecks.{refused}
 use Rattle.mq_hub.proofs.ConnectionChange.{rest_unknown}
-use Rattle.mq_hub.proofs.ConnectionTable.{unknown, unknown_shut}
 use Rattle.mq_hub.proofs.Refinements.{goes_then, goes_to}
 use Rattle.mq_hub.proofs.InvariantChanges.{all_fitting_same, apart_same, backed_same, kept_by, stage_same, up_same}
 use Rattle.mq_hub.proofs.TableView.{knows_seen}
-use Rattle.mq_hub.proofs.ClosedConnection.{closed, goes_closed, kept_closed}
+use Rattle.mq_hub.proofs.ClosedConnection.{goes_closed, kept_closed}
 
 -- one that waits for its CONNECT is known
 pub fresh_known : (k : Conn) (xs : List HubConnection) → stage_of k xs ≡ AwaitingConnect → knows k xs ≡ true
@@ -66,24 +69,6 @@ module _ (k : Conn) (ts us : List BrokerSession) (Q : HubConnection → Type 0) 
           ap₂ (λ (y : HubConnection) (ys : List HubConnection). y ∷ ys)
           (ap (seen us) (cond-false (is_connection k x) (f x) x differ) ∙ other x all.0 ∙ sym (cond-false (is_connection k x) (g (seen ts x)) (seen ts x) differ))
           (rest (sym (cond-false (is_connection k x) x.stage (stage_of k xs) differ) ∙ at))
-
--- ---- one change of a connection after another
-
-pub changed_twice : (k : Conn) (f g : HubConnection → HubConnection) → ((x : HubConnection) → (f x).conn ≡ x.conn) → (xs : List HubConnection) → with_connection g k (with_connection f k xs) ≡ with_connection (λ x. g (f x)) k xs
-changed_twice k f g names [] = refl
-changed_twice k f g names (x ∷ xs) = ap₂ (λ (y : HubConnection) (ys : List HubConnection). y ∷ ys) (one (is_connection k x) refl) (changed_twice k f g names xs)
-  where
-    one : (b : Bool) → is_connection k x ≡ b → changed g k (changed f k x) ≡ changed (λ y. g (f y)) k x
-    one true e =
-        ap (changed g k) (cond-true (is_connection k x) (f x) x e) ∙ cond-true (is_connection k (f x)) (g (f x)) (f x) (ap (λ (n : Conn). same_conn n k) (names x) ∙ e)
-        ∙ sym (cond-true (is_connection k x) (g (f x)) x e)
-    one false e =
-        ap (changed g k) (cond-false (is_connection k x) (f x) x e) ∙ cond-false (is_connection k x) (g x) x e ∙ sym (cond-false (is_connection k x) (g (f x)) x e)
-
--- ---- a connection is closed, and bytes wait on it
-
-abbrev pub filled : List ℕ → HubConnection → HubConnection
-filled b x = record x { waiting = b }
 
 abbrev pub closed_with : List ℕ → HubConnection → HubConnection
 closed_with b x = record x { stage = Closed; held = []; waiting = b }

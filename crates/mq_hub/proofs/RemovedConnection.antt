@@ -10,13 +10,14 @@ use Rattle.mq_route.specs.declared.reply.HubReply.{HubReply}
 use Rattle.mq_route.specs.Hub.{HubState, HubConnection, is_for, is_connection, is_open, key_on, knows, stage_of, up_on, without_connection, stage_for}
 use Rattle.mq_route.specs.Step.{HubStep, ended, ended_open}
 use Rattle.mq_route.specs.Work.{begin}
-use Rattle.mq_hub.specs.declared.sessions.session.BrokerSession.{BrokerSession}
+use Rattle.mq_tables.specs.declared.sessions.session.BrokerSession.{BrokerSession}
+use Rattle.mq_tables.specs.Tables.{HubTables}
+use Rattle.mq_tables.specs.Sessions.{sessions_of}
+use Rattle.mq_tables.proofs.ConnectionTable.{not_taken}
 use Rattle.mq_hub.specs.Inside.Refinement.{Refines}
 use Rattle.mq_hub.specs.Inside.Invariant.{AreApart, HubInvariant, ConnectionHasSession, IsQuiet}
-use Rattle.mq_hub.specs.Inside.View.{HubTables, all_seen, hub_of, seen}
-use Rattle.mq_hub.specs.Inside.Sessions.{sessions_of}
+use Rattle.mq_hub.specs.Inside.View.{all_seen, hub_of, seen}
 use Rattle.mq_hub.proofs.ConnectionChange.{rest_unknown}
-use Rattle.mq_hub.proofs.ConnectionTable.{not_taken}
 use Rattle.mq_hub.proofs.InvariantChanges.{all_fitting_same, kept_by}
 use Rattle.mq_hub.proofs.DeliveryInvariant.{all_filtered}
 use Rattle.mq_hub.proofs.ClosedConnection.{not_up}

@@ -11,14 +11,16 @@ use Rattle.mq_route.specs.declared.connection_state.ConnectionState.{ConnectionS
 use Rattle.mq_route.specs.declared.connection_state.ConnectionState.TheVariants.{AwaitingConnect, ConnectedAs, Closed}
 use Rattle.mq_route.specs.Hub.{HubState, HubSession, HubConnection, is_for, up_on, without_session}
 use Rattle.mq_route.specs.Work.{remove}
-use Rattle.mq_hub.specs.declared.sessions.session.BrokerSession.{BrokerSession}
+use Rattle.mq_tables.specs.declared.sessions.session.BrokerSession.{BrokerSession}
+use Rattle.mq_tables.specs.Tables.{HubTables}
+use Rattle.mq_tables.specs.Output.{output_of}
+use Rattle.mq_tables.specs.Sessions.{session_of, sessions_of, session_at, without_key}
+use Rattle.mq_tables.proofs.SessionLemmas.{ascending_without}
 use Rattle.mq_hub.specs.Inside.Refinement.{Refines}
 use Rattle.mq_hub.specs.Inside.Invariant.{HubInvariant, ConnectionHasSession, SessionMatchesConnection, HasSession}
-use Rattle.mq_hub.specs.Inside.View.{HubTables, all_seen, hub_of, output_of, seen, waiting_by}
-use Rattle.mq_hub.specs.Inside.Sessions.{session_of, sessions_of, session_at, without_key}
+use Rattle.mq_hub.specs.Inside.View.{all_seen, hub_of, seen, waiting_by}
 use Rattle.mq_hub.proofs.ConnectionChange.{seen_others}
 use Rattle.mq_hub.proofs.InvariantChanges.{kept_by}
-use Rattle.mq_hub.proofs.SessionLemmas.{ascending_without}
 
 module _ (key : ℕ) where
   far_key : (s : BrokerSession) (c : ℕ) → eqb s.key key ≡ true → eqb c key ≡ false → eqb s.key c ≡ false

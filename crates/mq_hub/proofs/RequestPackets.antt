@@ -17,18 +17,20 @@ use Rattle.mq_route.specs.declared.conn.Conn.{Conn}
 use Rattle.mq_route.specs.Arrives.{answers, due_by, is_too_broad, replies, on_connected_packet, on_passed_packet}
 use Rattle.mq_route.specs.Hub.{HubState, end_of, up_on}
 use Rattle.mq_route.specs.Work.{Work, close, does, have_room, put_on}
-use Rattle.mq_hub.specs.declared.sessions.session.BrokerSession.{BrokerSession}
-use Rattle.mq_hub.specs.Inside.Calls.{Replies, RequestsNothing}
+use Rattle.mq_tables.specs.declared.sessions.session.BrokerSession.{BrokerSession}
+use Rattle.mq_tables.specs.Calls.{Replies}
+use Rattle.mq_tables.specs.Tables.{HubTables}
+use Rattle.mq_tables.specs.Sessions.{with_server}
+use Rattle.mq_tables.proofs.EndCalls.{same_ends}
+use Rattle.mq_tables.proofs.SessionRoom.{same_change}
+use Rattle.mq_hub.specs.Inside.Requests.{RequestsNothing}
 use Rattle.mq_hub.specs.Inside.Refinement.{Refines}
 use Rattle.mq_hub.specs.Inside.Invariant.{HubInvariant}
 use Rattle.mq_hub.specs.Inside.Placement.{with_list}
-use Rattle.mq_hub.specs.Inside.View.{HubTables, hub_of}
-use Rattle.mq_hub.specs.Inside.Sessions.{with_server}
+use Rattle.mq_hub.specs.Inside.View.{hub_of}
 use Rattle.mq_hub.proofs.MalformedBytes.{put_nothing}
-use Rattle.mq_hub.proofs.EndCalls.{same_ends}
 use Rattle.mq_hub.proofs.Refinements.{goes_then}
 use Rattle.mq_hub.proofs.GrantedRows.{IsUpEnd, up_end}
-use Rattle.mq_hub.proofs.SessionRoom.{same_change}
 use Rattle.mq_hub.proofs.EndReplies.{end_there, gets_up, replied_goes}
 use Rattle.mq_hub.proofs.PacketSteps.{full_goes, telling_goes}
 

@@ -10,11 +10,12 @@ use Rattle.mq_route.specs.declared.connection_state.ConnectionState.TheVariants.
 use Rattle.mq_route.specs.Arrives.{touched}
 use Rattle.mq_route.specs.Hub.{HubConnection, changed, held_on, is_clean, is_for, is_connection, knows, up_on, stage_for, keep_alive_on}
 use Rattle.mq_route.specs.Routed.{same_conn}
-use Rattle.mq_hub.specs.declared.sessions.session.BrokerSession.{BrokerSession}
-use Rattle.mq_hub.specs.Inside.Input.{touched_at, holds}
+use Rattle.mq_tables.specs.declared.sessions.session.BrokerSession.{BrokerSession}
+use Rattle.mq_tables.specs.Connections.{touched_at, holds}
+use Rattle.mq_tables.specs.Tables.{HubTables}
+use Rattle.mq_tables.specs.Sessions.{sessions_of}
 use Rattle.mq_hub.specs.Inside.Invariant.{AreApart, HubInvariant, ConnectionHasSession, IsQuiet, SessionMatchesConnection}
-use Rattle.mq_hub.specs.Inside.View.{HubTables, all_seen, hub_of, seen, waiting_by}
-use Rattle.mq_hub.specs.Inside.Sessions.{sessions_of}
+use Rattle.mq_hub.specs.Inside.View.{all_seen, hub_of, seen, waiting_by}
 use Rattle.mq_hub.proofs.InvariantChanges.{kept_by}
 
 -- a change that keeps a connection's name and the client it is connected for, its terms and its

@@ -19,6 +19,7 @@ use Rattle.mq_end.specs.End.{End, is_up}
 use Rattle.mq_end.specs.Ready.{packets_size}
 use Rattle.mq_end.specs.Server.{subacks}
 use Rattle.mq_end.specs.Sizes.{publish_size, requests_size, suback_size, subscribe_size}
+use Rattle.mq_end.specs.declared.packet_outcome.PacketOutcome.{PacketOutcome}
 use Rattle.mq_route.specs.declared.act.Act.{Act}
 use Rattle.mq_route.specs.declared.config.HubConfig.{HubConfig}
 use Rattle.mq_route.specs.declared.conn.Conn.{Conn}
@@ -26,32 +27,34 @@ use Rattle.mq_route.specs.Arrives.{answers, granted}
 use Rattle.mq_route.specs.Copies.{copy, retained_for}
 use Rattle.mq_route.specs.Hub.{HubState, HubConnection, for_key, up_on}
 use Rattle.mq_route.specs.Work.{Work, does, place_all, publishes_next, retained_copies, subscribed}
-use Rattle.mq_hub.specs.declared.publish.rules.CopyRules.{CopyRules}
-use Rattle.mq_hub.specs.declared.sessions.call.Call.TheVariants.{Grants}
-use Rattle.mq_hub.specs.declared.sessions.session.BrokerSession.{BrokerSession}
+use Rattle.mq_tables.specs.declared.rules.CopyRules.{CopyRules}
+use Rattle.mq_tables.specs.declared.sessions.call.Call.TheVariants.{Grants}
+use Rattle.mq_tables.specs.declared.sessions.session.BrokerSession.{BrokerSession}
+use Rattle.mq_tables.specs.Calls.{CanServe, reply_of, ServesAt}
+use Rattle.mq_tables.specs.Connections.{ConnectionList}
+use Rattle.mq_tables.specs.Publishing.{MayGo, placed_at, published, roomless, AreSameButRoom}
+use Rattle.mq_tables.specs.Retained.{RetainedTable}
+use Rattle.mq_tables.specs.Tables.{HubTables}
+use Rattle.mq_tables.specs.Sessions.{sessions_of, session_at}
+use Rattle.mq_tables.specs.Subscriptions.{with_rows}
+use Rattle.mq_tables.specs.Rules.{rules_of, space_of}
+use Rattle.mq_tables.proofs.SessionRoom.{changed_own, same_change, same_session, some_same}
+use Rattle.mq_tables.proofs.Spaces.{frame_bytes, same_space}
+use Rattle.mq_hub.specs.declared.publish.settle.SettledMessages.{SettledMessages}
 use Rattle.mq_hub.specs.Inside.Requests.{Subscribes}
-use Rattle.mq_hub.specs.Inside.Calls.{CanServe, reply_of, ServesAt}
 use Rattle.mq_hub.specs.Inside.Refinement.{Refines}
 use Rattle.mq_hub.specs.Inside.Invariant.{HubInvariant, SessionMatchesConnection, IsWithin, HasSession}
-use Rattle.mq_hub.specs.Inside.Connections.{ConnectionList}
-use Rattle.mq_hub.specs.Inside.Placement.{HasSessions, IsFor, MayGo, placed_all, placed_at, published, roomless, with_list, AreSameButRoom, Settles}
-use Rattle.mq_hub.specs.Inside.Retained.{RetainedTable}
-use Rattle.mq_hub.specs.Inside.View.{HubTables, all_seen, hub_of}
-use Rattle.mq_hub.specs.Inside.Sessions.{sessions_of, session_at}
-use Rattle.mq_hub.specs.Inside.Subscriptions.{subscribed_acts, with_rows}
+use Rattle.mq_hub.specs.Inside.Placement.{HasSessions, IsFor, placed_all, with_list, Settles}
+use Rattle.mq_hub.specs.Inside.View.{all_seen, hub_of}
+use Rattle.mq_hub.specs.Inside.Subscriptions.{subscribed_acts}
+use Rattle.mq_hub.specs.Inside.Settlement.{IsSettledAs}
 use Rattle.mq_hub.proofs.Refinements.{goes_then}
 use Rattle.mq_hub.proofs.GrantedRows.{allowed_within, answered_goes, goes_subscribed, kept_answered, stands_up, up_end, with_owned}
 use Rattle.mq_hub.proofs.InvariantChanges.{kept_by}
 use Rattle.mq_hub.proofs.CopyTargets.{copy_size}
-use Rattle.mq_hub.proofs.SessionRoom.{changed_own, same_change, same_session, some_same}
 use Rattle.mq_hub.proofs.EndReplies.{Stays, kept_replied}
 use Rattle.mq_hub.proofs.PlacedCopies.{can_place, for_placeable, goes, heard_retained}
 use Rattle.mq_hub.proofs.MissedCopies.{settled_as}
-use Rattle.mq_hub.proofs.Spaces.{frame_bytes, same_space}
-use Rattle.mq_hub.specs.Inside.Settlement.{IsSettledAs}
-use Rattle.mq_hub.specs.Inside.Rules.{rules_of, space_of}
-use Rattle.mq_hub.specs.declared.publish.settle.SettledMessages.{SettledMessages}
-use Rattle.mq_end.specs.declared.packet_outcome.PacketOutcome.{PacketOutcome}
 
 -- ---- messages that are placed for a connected client
 

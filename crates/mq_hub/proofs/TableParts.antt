@@ -1,14 +1,11 @@
 -- Parts of a step on the tables that keep reserved room.
-use Rattle.std.proofs.Common.{◌≡◌, ℕ, ◌≤◌, Bool, true, false, cond, List, [], ◌∷◌, ◌++◌, Option, Some, None, Result, Ok, Err, IfOk, refl, sym, ap}
-use Rattle.std.proofs.Common.{subst, ◌∙◌, arith, eqb}
+use Rattle.std.proofs.Common.{◌≡◌, ℕ, ◌≤◌, Bool, true, false, cond, List, [], ◌∷◌, ◌++◌, Option, Some, None, Result, Ok, Err, IfOk, refl, sym, ap, subst, ◌∙◌, arith, eqb}
 use Rattle.std.proofs.lemmas.Bool.{cond-true, cond-false, cond_both}
 use Rattle.std.specs.Option.{IfSome}
 use Rattle.std.specs.Str.{bytes_eq}
 use Rattle.mq_topic.specs.Rows.{without_client}
 use Rattle.mq_packet.specs.declared.connect.Will.{Will}
 use Rattle.mq_packet.specs.declared.message.Message.{Message}
-use Rattle.mq_hub.specs.declared.publish.rules.CopyRules.{CopyRules}
-use Rattle.mq_hub.specs.declared.connections.table.ConnectionLimits.{ConnectionLimits}
 use Rattle.mq_end.specs.Sizes.{publish_size}
 use Rattle.mq_route.specs.declared.act.Act.{Act}
 use Rattle.mq_route.specs.declared.act.Act.TheVariants as acts
@@ -20,24 +17,31 @@ use Rattle.mq_route.specs.declared.connection_state.ConnectionState.TheVariants.
 use Rattle.mq_route.specs.Hub.{HubState, HubConnection, is_clean, is_connection, key_of, key_on, stage_of, up_on, with_connection}
 use Rattle.mq_route.specs.Routed.{same_conn}
 use Rattle.mq_route.specs.Work.{Work, last_will, shut_down}
-use Rattle.mq_hub.specs.declared.sessions.session.BrokerSession.{BrokerSession}
+use Rattle.mq_tables.specs.declared.rules.CopyRules.{CopyRules}
+use Rattle.mq_tables.specs.declared.connections.table.ConnectionLimits.{ConnectionLimits}
+use Rattle.mq_tables.specs.declared.sessions.session.BrokerSession.{BrokerSession}
+use Rattle.mq_tables.specs.Connections.{left_with}
+use Rattle.mq_tables.specs.Connecting.{parted}
+use Rattle.mq_tables.specs.Publishing.{placed_at, published, publishing}
+use Rattle.mq_tables.specs.Tables.{HubTables}
+use Rattle.mq_tables.specs.Sessions.{sessions_of, session_at, without_key}
+use Rattle.mq_tables.specs.Rules.{rules_of}
+use Rattle.mq_tables.proofs.ConnectionTable.{one_conn}
+use Rattle.mq_tables.proofs.LostConnection.{IsParted, IsPartedBy, parted_there}
+use Rattle.mq_tables.proofs.ClientClose.{lines_there}
+use Rattle.mq_tables.proofs.SessionRoom.{same_sessions}
+use Rattle.mq_tables.proofs.SessionLemmas.{named_with}
 use Rattle.mq_hub.specs.Inside.Refinement.{Refines}
 use Rattle.mq_hub.specs.Inside.Invariant.{HubInvariant, IsWillWithin}
-use Rattle.mq_hub.specs.Inside.Close.{left_with, parted, parts, will_left}
-use Rattle.mq_hub.specs.Inside.Placement.{placed_all, placed_at, published, publishing}
+use Rattle.mq_hub.specs.Inside.Close.{parts, will_left}
+use Rattle.mq_hub.specs.Inside.Placement.{placed_all}
 use Rattle.mq_hub.specs.Inside.TableSteps.{AreHubTables, Proceeds, Spares}
-use Rattle.mq_hub.specs.Inside.View.{HubTables, hub_of}
-use Rattle.mq_hub.specs.Inside.Sessions.{sessions_of, session_at, without_key}
+use Rattle.mq_hub.specs.Inside.View.{hub_of}
 use Rattle.mq_hub.specs.Inside.DeliveryPlan.{AreTablesAlike}
-use Rattle.mq_hub.specs.Inside.Rules.{rules_of}
 use Rattle.mq_hub.proofs.ConnectionChange.{stage_seen}
 use Rattle.mq_hub.proofs.TakenOutput.{IsUpFor, backed_at, is_up_for}
-use Rattle.mq_hub.proofs.ConnectionTable.{one_conn}
-use Rattle.mq_hub.proofs.LostConnection.{IsParted, IsPartedBy, parted_there}
-use Rattle.mq_hub.proofs.ClientClose.{goes_close, goes_left, goes_parted, hub_left, hub_parted, kept_left, kept_parted, lines_there, up_left, will_within}
-use Rattle.mq_hub.proofs.SessionRoom.{same_sessions}
+use Rattle.mq_hub.proofs.ClientClose.{goes_close, goes_left, goes_parted, hub_left, hub_parted, kept_left, kept_parted, up_left, will_within}
 use Rattle.mq_hub.proofs.DeliveryInvariant.{kept_alike}
-use Rattle.mq_hub.proofs.SessionLemmas.{named_with}
 
 -- ---- answers
 

@@ -3,9 +3,10 @@ use Rattle.std.proofs.Common.{◌≡◌, ◌||◌, ℕ, Bool, List, [], ◌∷�
 use Rattle.mq_route.specs.declared.config.HubConfig.{HubConfig}
 use Rattle.mq_route.specs.declared.conn.Conn.{Conn}
 use Rattle.mq_route.specs.Hub.{HubConnection, is_connection, knows}
-use Rattle.mq_hub.specs.declared.sessions.session.BrokerSession.{BrokerSession}
-use Rattle.mq_hub.specs.Inside.Sessions.{sessions_of}
-use Rattle.mq_hub.specs.Inside.View.{HubTables, all_seen, hub_of, seen}
+use Rattle.mq_tables.specs.declared.sessions.session.BrokerSession.{BrokerSession}
+use Rattle.mq_tables.specs.Sessions.{sessions_of}
+use Rattle.mq_tables.specs.Tables.{HubTables}
+use Rattle.mq_hub.specs.Inside.View.{all_seen, hub_of, seen}
 
 pub knows_seen : (k : Conn) (ts : List BrokerSession) (xs : List HubConnection) → knows k (all_seen ts xs) ≡ knows k xs
 knows_seen k ts [] = refl

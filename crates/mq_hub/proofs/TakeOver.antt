@@ -1,6 +1,5 @@
 -- A connected client connects on another connection.
-use Rattle.std.proofs.Common.{◌≡◌, ◌||◌, ℕ, ◌+◌, ◌≤◌, ◌<◌, ◌^◌, not, Bool, true, false, List, [], ◌∷◌, ◌++◌, Option, Some, None, refl, sym, ap, ap₂}
-use Rattle.std.proofs.Common.{subst, ◌∙◌, arith, true≢false}
+use Rattle.std.proofs.Common.{◌≡◌, ◌||◌, ℕ, ◌+◌, ◌≤◌, ◌<◌, ◌^◌, not, Bool, true, false, List, [], ◌∷◌, ◌++◌, Option, Some, None, refl, sym, ap, ap₂, subst, ◌∙◌, arith, true≢false}
 use Rattle.std.proofs.lemmas.Bool.{cond-true, cond-false}
 use Rattle.mq_topic.specs.Rows.{without_client}
 use Rattle.mq_packet.specs.declared.connect.Connect.{Connect}
@@ -14,16 +13,17 @@ use Rattle.mq_route.specs.Arrives.{accept_connect, goes_on, resume_session, star
 use Rattle.mq_route.specs.Hub.{HubState, is_clean, stage_of, up_on, with_connection}
 use Rattle.mq_route.specs.Welcome.{ends_on, ends_with}
 use Rattle.mq_route.specs.Work.{Work, close, remove, remove_if}
-use Rattle.mq_hub.specs.declared.publish.rules.CopyRules.{CopyRules}
-use Rattle.mq_hub.specs.declared.sessions.session.BrokerSession.{BrokerSession}
+use Rattle.mq_tables.specs.declared.rules.CopyRules.{CopyRules}
+use Rattle.mq_tables.specs.declared.sessions.session.BrokerSession.{BrokerSession}
+use Rattle.mq_tables.specs.Tables.{HubTables}
+use Rattle.mq_tables.specs.Sessions.{without_key}
+use Rattle.mq_tables.specs.Rules.{rules_of}
 use Rattle.mq_hub.specs.Inside.Close.{close_at}
 use Rattle.mq_hub.specs.Inside.Refinement.{Refines}
 use Rattle.mq_hub.specs.Inside.Invariant.{HubInvariant, IsWillWithin}
 use Rattle.mq_hub.specs.Inside.TableSteps.{Proceeds}
 use Rattle.mq_hub.specs.Inside.ConnectRoom.{IsNewSession}
-use Rattle.mq_hub.specs.Inside.View.{HubTables, hub_of}
-use Rattle.mq_hub.specs.Inside.Sessions.{without_key}
-use Rattle.mq_hub.specs.Inside.Rules.{rules_of}
+use Rattle.mq_hub.specs.Inside.View.{hub_of}
 use Rattle.mq_hub.proofs.NewSession.{goes_begun, keeps_begun}
 use Rattle.mq_hub.proofs.ConnectionChange.{stage_seen}
 use Rattle.mq_hub.proofs.FirstPackets.{goes_as}

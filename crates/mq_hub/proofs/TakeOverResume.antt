@@ -13,28 +13,29 @@ use Rattle.mq_route.specs.declared.connection_state.ConnectionState.TheVariants.
 use Rattle.mq_route.specs.Arrives.{resume_session}
 use Rattle.mq_route.specs.Hub.{HubState, is_clean, key_on, stage_of, up_on, with_connection}
 use Rattle.mq_route.specs.Work.{Work}
-use Rattle.mq_hub.specs.declared.publish.rules.CopyRules.{CopyRules}
-use Rattle.mq_hub.specs.declared.sessions.session.BrokerSession.{BrokerSession}
+use Rattle.mq_tables.specs.declared.rules.CopyRules.{CopyRules}
+use Rattle.mq_tables.specs.declared.sessions.session.BrokerSession.{BrokerSession}
+use Rattle.mq_tables.specs.Connections.{left_with, ConnectionList}
+use Rattle.mq_tables.specs.Connecting.{parted, left, HasConnected}
+use Rattle.mq_tables.specs.Publishing.{roomless, AreSameButRoom}
+use Rattle.mq_tables.specs.Tables.{HubTables}
+use Rattle.mq_tables.specs.Sessions.{session_at, with_server}
+use Rattle.mq_tables.specs.Rules.{rules_of}
+use Rattle.mq_tables.proofs.LostConnection.{IsPartedBy}
+use Rattle.mq_tables.proofs.SessionRoom.{same_session}
+use Rattle.mq_tables.proofs.RoomToConnect.{changed_there, IsChanged, IsChangedBy}
 use Rattle.mq_hub.specs.Inside.Requests.{AreAlike}
 use Rattle.mq_hub.specs.Inside.Refinement.{Refines}
 use Rattle.mq_hub.specs.Inside.Invariant.{HubInvariant, IsWillWithin}
-use Rattle.mq_hub.specs.Inside.Close.{left_with, parted, parts}
-use Rattle.mq_hub.specs.Inside.Connections.{ConnectionList}
-use Rattle.mq_hub.specs.Inside.Placement.{roomless, AreSameButRoom}
+use Rattle.mq_hub.specs.Inside.Close.{parts}
 use Rattle.mq_hub.specs.Inside.TableSteps.{AreHubTables, Proceeds}
-use Rattle.mq_hub.specs.Inside.ConnectRoom.{left, HasConnected}
-use Rattle.mq_hub.specs.Inside.View.{HubTables, hub_of}
-use Rattle.mq_hub.specs.Inside.Sessions.{session_at, with_server}
-use Rattle.mq_hub.specs.Inside.Rules.{rules_of}
+use Rattle.mq_hub.specs.Inside.View.{hub_of}
 use Rattle.mq_hub.proofs.TakenOutput.{backed_at}
 use Rattle.mq_hub.proofs.Refinements.{goes_then}
 use Rattle.mq_hub.proofs.InvariantChanges.{kept_by}
-use Rattle.mq_hub.proofs.LostConnection.{IsPartedBy}
 use Rattle.mq_hub.proofs.TableParts.{proceeds_parted, up_none}
-use Rattle.mq_hub.proofs.SessionRoom.{same_session}
 use Rattle.mq_hub.proofs.OtherRoom.{hub_alike, kept_alike, kept_ready}
 use Rattle.mq_hub.proofs.ConnectedSession.{is_anonymous, goes_on_greeted, keeps_greeted, stage_by}
-use Rattle.mq_hub.proofs.RoomToConnect.{changed_there, IsChanged, IsChangedBy}
 use Rattle.mq_hub.proofs.TableView.{hub_same}
 
 -- ---- the room that is made first

@@ -1,5 +1,5 @@
 -- The pending output of a connection is taken.
-use Rattle.std.proofs.Common.{◌≡◌, ℕ, Bool, true, false, List, [], ◌∷◌, Some, None, refl, sym, ap, ap₂, subst, ◌∙◌, eqb}
+use Rattle.std.proofs.Common.{◌≡◌, ℕ, Bool, true, false, List, [], ◌∷◌, Some, None, refl, sym, ap, subst, ◌∙◌}
 use Rattle.std.proofs.lemmas.Bool.{cond_both, cond-true, cond-false}
 use Rattle.std.specs.List.{AllByRecursion}
 use Rattle.std.specs.Option.{is_some}
@@ -11,18 +11,18 @@ use Rattle.mq_route.specs.declared.connection_state.ConnectionState.TheVariants.
 use Rattle.mq_route.specs.declared.connection_state.ConnectionTerms.{ConnectionTerms}
 use Rattle.mq_route.specs.Hub.{HubConnection, changed, is_connection, key_on, stage_of, waiting_on, with_connection}
 use Rattle.mq_route.specs.Step.{collected}
-use Rattle.mq_hub.specs.declared.sessions.session.BrokerSession.{BrokerSession}
-use Rattle.mq_hub.specs.Inside.Output.{drained}
+use Rattle.mq_tables.specs.declared.sessions.session.BrokerSession.{BrokerSession}
+use Rattle.mq_tables.specs.Output.{drained}
+use Rattle.mq_tables.specs.Tables.{HubTables}
+use Rattle.mq_tables.specs.Sessions.{sessions_of, session_at, with_server}
+use Rattle.mq_tables.proofs.OtherEnd.{below_as, holds_at}
+use Rattle.mq_tables.proofs.SessionLemmas.{ascending_with}
+use Rattle.mq_tables.proofs.TakenOutput.{emptied, output_found, still_lines}
 use Rattle.mq_hub.specs.Inside.Invariant.{HubInvariant, ConnectionHasSession, IsQuiet, SessionMatchesConnection, HasSession}
-use Rattle.mq_hub.specs.Inside.View.{HubTables, all_seen, hub_of, output_of, seen, waiting_by}
-use Rattle.mq_hub.specs.Inside.Sessions.{served_by, sessions_of, session_at, with_server}
+use Rattle.mq_hub.specs.Inside.View.{all_seen, hub_of, seen, waiting_by}
 use Rattle.mq_hub.proofs.ConnectionChange.{output_here, own_bytes, seen_changed, seen_served, seen_still, waiting_up}
 use Rattle.mq_hub.proofs.InvariantChanges.{all_fitting_same, apart_same, backed_same, kept_by, stage_same, up_same}
-use Rattle.mq_hub.proofs.OtherEnd.{all_backed_as, all_owned_as, all_fitting_with, below_as, holds_at, sessions_as}
-use Rattle.mq_hub.proofs.SessionLemmas.{ascending_with}
-
-abbrev pub emptied : HubConnection → HubConnection
-emptied x = record x { waiting = [] }
+use Rattle.mq_hub.proofs.OtherEnd.{all_backed_as, all_owned_as, all_fitting_with, sessions_as}
 
 -- a connection that is connected for a key
 pub record IsUpFor (key : ℕ) (s : ConnectionState) : Type 0 where
@@ -51,24 +51,6 @@ quiet_emptied k (x ∷ xs) all =
     none (ConnectedAs key terms last_activity) = tt
     none Closed = tt
 
-pub still_lines : (k : Conn) (xs : List HubConnection) → with_connection (λ x. x) k xs ≡ xs
-still_lines k [] = refl
-still_lines k (x ∷ xs) = λ i. cond_both (is_connection k x) x x (λ (y : HubConnection). y ≡ x) (λ e. refl) (λ e. refl) i ∷ still_lines k xs i
-
--- ---- which bytes they are
-
-pub output_found : (key : ℕ) (t : BrokerSession) (ts : List BrokerSession) → session_at key ts ≡ Some t → output_of key ts ≡ t.end.output
-output_found key t [] there = absurd cc
-output_found key t (s ∷ ts) there = go (eqb s.key key) refl (output_found key t ts)
-  where
-    go : (b : Bool) → eqb s.key key ≡ b → (session_at key ts ≡ Some t → output_of key ts ≡ t.end.output) → output_of key (s ∷ ts) ≡ t.end.output
-    go true at rest =
-        let w : Some s ≡ Some t = sym (cond-true (eqb s.key key) (Some s) (session_at key ts) at) ∙ there in
-        let is : s ≡ t = cc in
-        cond-true (eqb s.key key) s.end.output (output_of key ts) at ∙ ap (λ (u : BrokerSession). u.end.output) is
-    go false at rest =
-        cond-false (eqb s.key key) s.end.output (output_of key ts) at ∙ rest (sym (cond-false (eqb s.key key) (Some s) (session_at key ts) at) ∙ there)
-
 pub waits_up : (k : Conn) (key : ℕ) (t : BrokerSession) (ts : List BrokerSession) (xs : List HubConnection) → key_on (stage_of k xs) ≡ Some key → session_at key ts ≡ Some t
     → waiting_on k (all_seen ts xs) ≡ t.end.output
 waits_up k key t ts xs up there = let at = is_up_for key (stage_of k xs) up in waiting_up k key at.terms at.last_activity ts xs at.is ∙ output_found key t ts there
@@ -87,17 +69,6 @@ backed_at most k key ts (x ∷ xs) all up = go (is_connection k x) refl (backed_
     go : (b : Bool) → is_connection k x ≡ b → (key_on (stage_of k xs) ≡ Some key → HasSession ts key) → HasSession ts key
     go true same rest = of x.stage all.0 (ap key_on (sym (cond-true (is_connection k x) x.stage (stage_of k xs) same)) ∙ up)
     go false differ rest = rest (ap key_on (sym (cond-false (is_connection k x) x.stage (stage_of k xs) differ)) ∙ up)
-
-pub served_twice : (key : ℕ) (d e : EndState) (ts : List BrokerSession) → with_server key e (with_server key d ts) ≡ with_server key e ts
-served_twice key d e [] = refl
-served_twice key d e (s ∷ ts) = go (eqb s.key key) refl (served_twice key d e ts)
-  where
-    go : (b : Bool) → eqb s.key key ≡ b → with_server key e (with_server key d ts) ≡ with_server key e ts → with_server key e (with_server key d (s ∷ ts)) ≡ with_server key e (s ∷ ts)
-    go true at rest =
-        ap₂ (λ (x : BrokerSession) (xs : List BrokerSession). x ∷ xs)
-        (ap (served_by key e) (cond-true (eqb s.key key) (record s { end = d }) s at) ∙ cond-true (eqb s.key key) (record s { end = e }) (record s { end = d }) at
-        ∙ sym (cond-true (eqb s.key key) (record s { end = e }) s at)) rest
-    go false at rest = ap₂ (λ (x : BrokerSession) (xs : List BrokerSession). x ∷ xs) (ap (served_by key e) (cond-false (eqb s.key key) (record s { end = d }) s at)) rest
 
 -- ---- of a connected one
 

@@ -4,9 +4,8 @@ ghost use Rattle.std.specs.Prelude.{◌≡◌, ◌<◌, [], IfSome};
 ghost use Rattle.mq_route.specs.Hub.{knows, new_hub};
 ghost use Rattle.mq_route.specs.Step.{event_refusal};
 
-use crate::connections::table::ConnectionLimits;
-use crate::tables::Tables;
 use mq_route::{Conn, HubConfig, HubEvent, HubRefusal};
+use mq_tables::{ConnectionLimits, Tables};
 use mq_topic::{FilterStore, TrieStore};
 use std::alloc::Global;
 use std::marker::Model;

@@ -19,14 +19,12 @@ mod input;
 mod keep_alive;
 mod numbers;
 mod publish;
-mod retained;
 mod run;
 mod sessions;
 mod snapshot;
 mod step;
 mod subscribe;
 mod subscriptions;
-mod tables;
 mod unsubscribe;
 mod will;
 

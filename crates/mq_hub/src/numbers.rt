@@ -3,11 +3,11 @@
 ghost use Rattle.std.specs.Prelude.{◌≡◌, ◌-◌, ◌^◌, length, min, option_map, slice_get, true};
 ghost use Rattle.std.specs.Option.{option_copied};
 ghost use Rattle.mq_flow.specs.Sender.{is_full};
+ghost use Rattle.mq_tables.specs.Numbers.{stored_at};
 ghost use Rattle.mq_hub.specs.Gauges.{counts_of, stored_in};
-ghost use Rattle.mq_hub.specs.Inside.Numbers.{stored_at};
 
 use crate::hub::HubOver;
-use crate::sessions::session::{BrokerSession, free_of, stored_of};
+use mq_tables::{BrokerSession, free_of, stored_of};
 use mq_topic::{ClientKey, FilterStore};
 use mq_wire::Text;
 

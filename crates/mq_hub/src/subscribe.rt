@@ -1,6 +1,6 @@
 //! Handles a SUBSCRIBE (3.8).
 
-ghost use Rattle.std.specs.Prelude.{◌≡◌, ℕ, ◌≤◌, ◌++◌, List, Bool, true, false, is_some, Ok, IfOk, OnErr};
+ghost use Rattle.std.specs.Prelude.{◌≡◌, ◌≤◌, ◌++◌, List, Bool, true, false, is_some, Ok, IfOk, OnErr};
 ghost use Rattle.mq_packet.specs.declared.message.Message.{Message};
 ghost use Rattle.mq_packet.specs.declared.packet.Packet.TheVariants as packets;
 ghost use Rattle.mq_end.specs.Sizes.{subscribe_size};
@@ -11,10 +11,10 @@ ghost use Rattle.mq_route.specs.declared.conn.Conn.{Conn};
 ghost use Rattle.mq_route.specs.Arrives.{answers, granted, on_passed_packet};
 ghost use Rattle.mq_route.specs.Hub.{HubState, for_key, up_on};
 ghost use Rattle.mq_route.specs.Work.{close, have_room, retained_copies};
+ghost use Rattle.mq_tables.specs.Calls.{CanServe};
+ghost use Rattle.mq_tables.specs.Rules.{rules_of};
 ghost use Rattle.mq_hub.specs.Inside.Requests.{AreAlike, Subscribes};
-ghost use Rattle.mq_hub.specs.Inside.Calls.{CanServe};
 ghost use Rattle.mq_hub.specs.Inside.Refinement.{Refines};
-ghost use Rattle.mq_hub.specs.Inside.Rules.{rules_of};
 ghost use Rattle.mq_hub.specs.Inside.Placement.{HasSessions, IsFor};
 ghost use Rattle.mq_hub.specs.Inside.Subscriptions.{subscribed_acts};
 
@@ -22,13 +22,11 @@ use crate::acts::ActLog;
 use crate::hub::HubOver;
 use crate::publish::delivery::push_all;
 use crate::publish::enqueue::{place_for, retained_copies};
-use crate::publish::rules::{CopyRules, rules_of};
 use crate::publish::settle::{SettledMessages, settle_for};
-use crate::sessions::call::Call;
-use crate::subscriptions::{push_subscribed, set_rows};
-use crate::tables::Tables;
+use crate::subscriptions::push_subscribed;
 use mq_end::{packet_len, size_laws};
 use mq_packet::{NonEmpty, PacketId, Request, SubAckCode};
+use mq_tables::{Call, CopyRules, Tables, rules_of, set_rows};
 use mq_topic::{ClientKey, FilterStore};
 use std::alloc::{AllocError, Global};
 
@@ -46,63 +44,61 @@ fn granted(alloc: Global, requests: &[Request]) -> Result<Vec<SubAckCode>, Alloc
     Ok(codes)
 }
 
-impl<S: FilterStore> Tables<S> {
-    /// Subscribes a client (3.8.4): its subscriptions are set, SUBACK is queued, and the retained
-    /// messages are placed or missed. Returns `false` if its session has no room for them (2.3.1)
-    /// and the rules do not drop those without room. Then, and on `Err`, only reserved capacity may
-    /// have changed.
-    pub(crate) fn subscribe(
-        &mut self,
-        alloc: Global,
-        rules: CopyRules,
-        key: ClientKey,
-        id: PacketId,
-        requests: NonEmpty<Request>,
-        log: &mut ActLog,
-    ) -> Result<bool, AllocError>
-        requires can { CanServe key (Call.Grants id (granted requests)) self.old.sessions.list }
-        requires due { (ms : List Message) → for_key key ms ≡ retained_copies key requests self.old.retained.messages → IsFor key ms self.old.sessions.list }
-        ensures enough { IfOk result (λ enough. (h : HubState) → HasSessions self.old.sessions.list h → rules_of h.config ≡ rules
-            → have_room (retained_copies key requests self.old.retained.messages) h ≡ enough) }
-        ensures done { result ≡ Ok true → (says : List Act) × Subscribes key id requests rules self.old self.new says
-            × (log.new.acts ≡ (log.old.acts ++ subscribed_acts key requests) ++ says) }
-        ensures room { result ≡ Ok true → 3 ≤ log.new.room }
-        ensures full { result ≡ Ok false → AreAlike self.old self.new }
-        ensures err { OnErr result (AreAlike self.old self.new) }
-        ensures full_acts { result ≡ Ok false → log.new.acts ≡ log.old.acts }
-        ensures full_room { result ≡ Ok false → log.old.room ≤ log.new.room }
-        ensures err_acts { OnErr result (log.new.acts ≡ log.old.acts) }
-        ensures err_room { OnErr result (log.old.room ≤ log.new.room) }
-    {
-        size_laws();
-        let messages = retained_copies(alloc, &self.retained, requests.as_slice())?;
-        let codes = granted(alloc, requests.as_slice())?;
-        let count = requests.as_slice().len();
-        log.reserve(count + messages.len() + 3)?;
-        let more = SUBACK + count;
-        let queued = packet_len(2 + count);
-        let Some(settled) = settle_for(
-            alloc,
-            &mut self.sessions,
-            rules,
-            key,
-            messages,
-            queued,
-            more,
-        )?
-        else {
-            return Ok(false);
-        };
-        set_rows(alloc, &mut self.store, key, requests.as_slice())?;
-        push_subscribed(log, key, requests.into_vec());
-        let _ = self
-            .sessions
-            .serve(key, Call::Grants(id, NonEmpty::from_vec(codes)));
-        let SettledMessages { kept, acts } = settled;
-        push_all(log, acts);
-        place_for(&mut self.sessions, key, kept);
-        Ok(true)
-    }
+/// Subscribes a client (3.8.4): its subscriptions are set, SUBACK is queued, and the retained
+/// messages are placed or missed. Returns `false` if its session has no room for them (2.3.1)
+/// and the rules do not drop those without room. Then, and on `Err`, only reserved capacity may
+/// have changed.
+pub(crate) fn subscribe<S: FilterStore>(
+    tables: &mut Tables<S>,
+    alloc: Global,
+    rules: CopyRules,
+    key: ClientKey,
+    id: PacketId,
+    requests: NonEmpty<Request>,
+    log: &mut ActLog,
+) -> Result<bool, AllocError>
+    requires can { CanServe key (Call.Grants id (granted requests)) tables.old.sessions.list }
+    requires due { (ms : List Message) → for_key key ms ≡ retained_copies key requests tables.old.retained.messages → IsFor key ms tables.old.sessions.list }
+    ensures enough { IfOk result (λ enough. (h : HubState) → HasSessions tables.old.sessions.list h → rules_of h.config ≡ rules
+        → have_room (retained_copies key requests tables.old.retained.messages) h ≡ enough) }
+    ensures done { result ≡ Ok true → (says : List Act) × Subscribes key id requests rules tables.old tables.new says
+        × (log.new.acts ≡ (log.old.acts ++ subscribed_acts key requests) ++ says) }
+    ensures room { result ≡ Ok true → 3 ≤ log.new.room }
+    ensures full { result ≡ Ok false → AreAlike tables.old tables.new }
+    ensures err { OnErr result (AreAlike tables.old tables.new) }
+    ensures full_acts { result ≡ Ok false → log.new.acts ≡ log.old.acts }
+    ensures full_room { result ≡ Ok false → log.old.room ≤ log.new.room }
+    ensures err_acts { OnErr result (log.new.acts ≡ log.old.acts) }
+    ensures err_room { OnErr result (log.old.room ≤ log.new.room) }
+{
+    size_laws();
+    let messages = retained_copies(alloc, &tables.retained, requests.as_slice())?;
+    let codes = granted(alloc, requests.as_slice())?;
+    let count = requests.as_slice().len();
+    log.reserve(count + messages.len() + 3)?;
+    let more = SUBACK + count;
+    let queued = packet_len(2 + count);
+    let Some(settled) = settle_for(
+        alloc,
+        &mut tables.sessions,
+        rules,
+        key,
+        messages,
+        queued,
+        more,
+    )?
+    else {
+        return Ok(false);
+    };
+    set_rows(alloc, &mut tables.store, key, requests.as_slice())?;
+    push_subscribed(log, key, requests.into_vec());
+    let _ = tables
+        .sessions
+        .serve(key, Call::Grants(id, NonEmpty::from_vec(codes)));
+    let SettledMessages { kept, acts } = settled;
+    push_all(log, acts);
+    place_for(&mut tables.sessions, key, kept);
+    Ok(true)
 }
 
 impl<S: FilterStore> HubOver<S> {
@@ -136,6 +132,6 @@ impl<S: FilterStore> HubOver<S> {
     {
         let alloc = self.alloc;
         let rules = rules_of(&self.config);
-        self.tables.subscribe(alloc, rules, key, id, requests, log)
+        subscribe(&mut self.tables, alloc, rules, key, id, requests, log)
     }
 }

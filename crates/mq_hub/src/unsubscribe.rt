@@ -1,28 +1,25 @@
 //! Handles an UNSUBSCRIBE (3.10).
 
-ghost use Rattle.std.specs.Prelude.{◌≡◌, ℕ, ◌≤◌, ◌++◌, [], Bool, true, is_some, Some, OnOk, OnErr, IsSome};
+ghost use Rattle.std.specs.Prelude.{◌≡◌, ◌≤◌, ◌++◌, [], Bool, true, is_some, OnOk, OnErr, IsSome};
 ghost use Rattle.mq_packet.specs.declared.packet.Packet.TheVariants as packets;
-ghost use Rattle.mq_end.specs.Ready.{whole_size};
 ghost use Rattle.mq_end.specs.Sizes.{unsuback_size};
 ghost use Rattle.mq_end.specs.declared.happening.Happening.TheVariants as happens;
 ghost use Rattle.mq_route.specs.declared.conn.Conn.{Conn};
 ghost use Rattle.mq_route.specs.Arrives.{answers, on_connected_packet};
 ghost use Rattle.mq_route.specs.Hub.{up_on};
+ghost use Rattle.mq_tables.specs.Calls.{CanServe};
+ghost use Rattle.mq_tables.specs.Publishing.{AreSameButRoom, IsReadyAt};
+ghost use Rattle.mq_tables.specs.Sessions.{session_at};
 ghost use Rattle.mq_hub.specs.Inside.Requests.{AreAlike, Answers};
-ghost use Rattle.mq_hub.specs.Inside.Calls.{CanServe};
 ghost use Rattle.mq_hub.specs.Inside.Refinement.{Refines};
-ghost use Rattle.mq_hub.specs.Inside.Placement.{AreSameButRoom, IsReadyAt};
-ghost use Rattle.mq_hub.specs.Inside.Sessions.{session_at};
 ghost use Rattle.mq_hub.specs.Inside.Subscriptions.{unsubscribed_acts, without_rows};
 
 use crate::acts::ActLog;
 use crate::hub::HubOver;
-use crate::sessions::call::Call;
-use crate::sessions::table::Sessions;
 use crate::subscriptions::remove_rows;
-use crate::tables::Tables;
 use mq_end::size_laws;
 use mq_packet::{NonEmpty, PacketId};
+use mq_tables::{Call, Sessions, Tables};
 use mq_topic::{ClientKey, FilterStore, TopicFilter};
 use std::alloc::AllocError;
 
@@ -43,32 +40,30 @@ fn make_bytes(sessions: &mut Sessions, key: ClientKey, more: usize) -> Result<()
     }
 }
 
-impl<S: FilterStore> Tables<S> {
-    /// Removes subscriptions of a client and queues UNSUBACK (3.10.4). On `Err` only reserved
-    /// capacity may have changed.
-    pub(crate) fn unsubscribe(
-        &mut self,
-        key: ClientKey,
-        id: PacketId,
-        filters: NonEmpty<TopicFilter>,
-        log: &mut ActLog,
-    ) -> Result<(), AllocError>
-        requires { CanServe key (Call.Drops id) self.old.sessions.list }
-        ensures ok { OnOk result (Answers key (Call.Drops id) (without_rows key filters self.old.rows) self.old self.new) }
-        ensures acts { OnOk result (log.new.acts ≡ log.old.acts ++ unsubscribed_acts key filters) }
-        ensures room { OnOk result (3 ≤ log.new.room) }
-        ensures err { OnErr result (AreAlike self.old self.new) }
-        ensures err_acts { OnErr result (log.new.acts ≡ log.old.acts) }
-        ensures err_room { OnErr result (log.old.room ≤ log.new.room) }
-    {
-        size_laws();
-        let filters = filters.into_vec();
-        log.reserve(filters.len() + 3)?;
-        make_bytes(&mut self.sessions, key, UNSUBACK)?;
-        remove_rows(&mut self.store, key, filters, log);
-        let _ = self.sessions.serve(key, Call::Drops(id));
-        Ok(())
-    }
+/// Removes subscriptions of a client and queues UNSUBACK (3.10.4). On `Err` only reserved
+/// capacity may have changed.
+pub(crate) fn unsubscribe<S: FilterStore>(
+    tables: &mut Tables<S>,
+    key: ClientKey,
+    id: PacketId,
+    filters: NonEmpty<TopicFilter>,
+    log: &mut ActLog,
+) -> Result<(), AllocError>
+    requires { CanServe key (Call.Drops id) tables.old.sessions.list }
+    ensures ok { OnOk result (Answers key (Call.Drops id) (without_rows key filters tables.old.rows) tables.old tables.new) }
+    ensures acts { OnOk result (log.new.acts ≡ log.old.acts ++ unsubscribed_acts key filters) }
+    ensures room { OnOk result (3 ≤ log.new.room) }
+    ensures err { OnErr result (AreAlike tables.old tables.new) }
+    ensures err_acts { OnErr result (log.new.acts ≡ log.old.acts) }
+    ensures err_room { OnErr result (log.old.room ≤ log.new.room) }
+{
+    size_laws();
+    let filters = filters.into_vec();
+    log.reserve(filters.len() + 3)?;
+    make_bytes(&mut tables.sessions, key, UNSUBACK)?;
+    remove_rows(&mut tables.store, key, filters, log);
+    let _ = tables.sessions.serve(key, Call::Drops(id));
+    Ok(())
 }
 
 impl<S: FilterStore> HubOver<S> {
@@ -91,6 +86,6 @@ impl<S: FilterStore> HubOver<S> {
         ensures err_acts { OnErr result (log.new.acts ≡ log.old.acts) }
         ensures err_room { OnErr result (log.old.room ≤ log.new.room) }
     {
-        self.tables.unsubscribe(key, id, filters, log)
+        unsubscribe(&mut self.tables, key, id, filters, log)
     }
 }

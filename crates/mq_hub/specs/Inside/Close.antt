@@ -1,23 +1,14 @@
 -- Closing a connection on which a client is connected (3.1.2.4, 4.8).
-use Rattle.std.specs.Prelude.{ℕ, Bool, List, [], Option, None}
+use Rattle.std.specs.Prelude.{ℕ, Bool, Option, None}
 use Rattle.mq_packet.specs.declared.connect.Will.{Will}
 use Rattle.mq_end.specs.End.{over}
-use Rattle.mq_end.specs.State.{EndState, no_bytes}
 use Rattle.mq_route.specs.declared.act.Act.TheVariants as acts
 use Rattle.mq_route.specs.declared.close.HubClose.{HubClose}
 use Rattle.mq_route.specs.declared.conn.Conn.{Conn}
+use Rattle.mq_route.specs.declared.connection_state.ConnectionState.TheVariants.{Closed, AwaitingConnect, ConnectedAs}
+use Rattle.mq_route.specs.Hub.{end_of, with_end, key_on, stage_of, with_left}
+use Rattle.mq_route.specs.Work.{Work, remove_if, said, shut, with_sessions, shut_down, will_after}
 use Rattle.mq_route.specs.declared.connection_state.ConnectionState.{ConnectionState}
-use Rattle.mq_route.specs.declared.connection_state.ConnectionState.TheVariants.{AwaitingConnect, ConnectedAs, Closed}
-use Rattle.mq_route.specs.Hub.{HubConnection, end_of, key_on, stage_of, with_end, with_left}
-use Rattle.mq_route.specs.Work.{Work, remove_if, said, shut, shut_down, will_after, with_sessions}
-
--- an end without connection and pending output
-abbrev pub parted : EndState → EndState
-parted e = record e { end = over e.end; held = []; output = []; room = no_bytes e.room }
-
--- a closed connection with this pending output
-abbrev pub left_with : List ℕ → HubConnection → HubConnection
-left_with b x = record x { stage = Closed; held = []; waiting = b }
 
 -- A close up to the publication of the client's will: the connection is closed, the session's end
 -- loses it, and the session ends with it if asked (3.1.2.4).

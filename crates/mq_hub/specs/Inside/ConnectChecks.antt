@@ -1,14 +1,15 @@
 -- What the checks of a CONNECT read, and the effect of a refusal (3.1.3.1, 3.1.3.4, 3.2.2.3).
-use Rattle.std.specs.Prelude.{◌≡◌, ℕ, Bool, true, false, [], ◌∷◌, length, Option, Some, None, is_some}
+use Rattle.std.specs.Prelude.{◌≡◌, length, ℕ, Option, Some, None, is_some, Bool, [], ◌∷◌, true, false}
 use Rattle.mq_packet.specs.declared.connack.ConnAck.TheVariants as connacks
 use Rattle.mq_packet.specs.declared.connack.RefusalCode.{RefusalCode}
+use Rattle.mq_packet.specs.declared.packet.Packet.TheVariants as packets
 use Rattle.mq_packet.specs.declared.packet.Packet.{Packet}
 use Rattle.mq_packet.specs.declared.packet.Packet.TheVariants as packets
 use Rattle.mq_end.specs.declared.reason.CloseReason.TheVariants as reasons
-use Rattle.mq_route.specs.declared.close.HubClose.TheVariants.{Own}
-use Rattle.mq_route.specs.declared.conn.Conn.{Conn}
 use Rattle.mq_route.specs.Hub.{HubState, up_on}
 use Rattle.mq_route.specs.Welcome.{up_count, ends_with}
+use Rattle.mq_route.specs.declared.close.HubClose.TheVariants.{Own}
+use Rattle.mq_route.specs.declared.conn.Conn.{Conn}
 use Rattle.mq_route.specs.Work.{Work, close, put_on}
 use Rattle.mq_hub.specs.declared.connect.check.Counts.{Counts}
 use Rattle.mq_hub.specs.declared.connect.check.SessionStatus.{SessionStatus}

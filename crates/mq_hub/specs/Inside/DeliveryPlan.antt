@@ -1,12 +1,13 @@
 -- A planned delivery, and tables with room for it.
-use Rattle.std.specs.Prelude.{◌≡◌, ℕ, ◌<◌, [], length, false, IfSome}
+use Rattle.std.specs.Prelude.{◌≡◌, false, IfSome, [], ℕ, ◌<◌, length}
 use Rattle.mq_topic.specs.declared.qos.Qos.TheVariants.{Q0, Q1, Q2}
 use Rattle.mq_packet.specs.declared.message.Message.{Message}
 use Rattle.mq_route.specs.Copies.{copy}
-use Rattle.mq_hub.specs.declared.publish.delivery.DeliveryPlan.{DeliveryPlan}
+use Rattle.mq_tables.specs.Publishing.{AreSameButRoom}
+use Rattle.mq_tables.specs.Tables.{HubTables}
 use Rattle.mq_hub.specs.declared.publish.shared_copies.SharedCopies.{SharedCopies}
-use Rattle.mq_hub.specs.Inside.Placement.{AreApart, AreReady, AreSameButRoom}
-use Rattle.mq_hub.specs.Inside.View.{HubTables}
+use Rattle.mq_hub.specs.declared.publish.delivery.DeliveryPlan.{DeliveryPlan}
+use Rattle.mq_hub.specs.Inside.Placement.{AreApart, AreReady}
 
 -- Each shared copy is the copy of a message for its granted quality of service (3.3.5, 3.8.4).
 pub record AreShared (m : Message) (s : SharedCopies) : Type 0 where

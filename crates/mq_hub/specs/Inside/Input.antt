@@ -1,26 +1,19 @@
 -- The bytes of a connection, packet by packet (4.2).
-use Rattle.std.specs.Prelude.{◌≡◌, ℕ, ◌≤◌, Bool, true, false, List, [], ◌++◌, length, take}
+use Rattle.std.specs.Prelude.{ℕ, List, ◌≡◌, ◌≤◌, ◌++◌, length, take, [], Bool, true, false}
 use Rattle.mq_packet.specs.declared.packet.Packet.{Packet}
-use Rattle.mq_decode.specs.Grammar.{ReadsWithin, Pending}
 use Rattle.mq_decode.specs.Limits.{Bounds}
-use Rattle.mq_route.specs.declared.act.Act.{Act}
+use Rattle.mq_decode.specs.Grammar.{ReadsWithin, Pending}
 use Rattle.mq_route.specs.declared.conn.Conn.{Conn}
-use Rattle.mq_route.specs.Arrives.{Growth, touched, takes}
-use Rattle.mq_route.specs.Hub.{HubState, HubConnection, with_connection}
+use Rattle.mq_route.specs.Hub.{HubState, with_connection}
+use Rattle.mq_route.specs.declared.act.Act.{Act}
 use Rattle.mq_route.specs.Work.{Work}
 use Rattle.mq_route.specs.Step.{Comes}
 use Rattle.mq_route.specs.StepSome.{IsSparing}
+use Rattle.mq_route.specs.Arrives.{Growth, takes}
+use Rattle.mq_tables.specs.Connections.{holds, touched_at}
 use Rattle.mq_hub.specs.declared.input.decoder.Next.{Next}
 use Rattle.mq_hub.specs.declared.input.decoder.Next.TheVariants.{Packet as Arrived, Waits, Closed}
 use Rattle.mq_hub.specs.Inside.Refinement.{Refines}
-
--- a connection that holds these bytes of an incomplete packet
-abbrev pub holds : List ℕ → HubConnection → HubConnection
-holds b x = record x { held = b }
-
--- a connection whose last packet came at this time
-abbrev pub touched_at : ℕ → HubConnection → HubConnection
-touched_at now x = record x { stage = touched now x.stage }
 
 -- a broker whose connection holds these bytes of an incomplete packet
 abbrev pub with_held : Conn → List ℕ → HubState → HubState

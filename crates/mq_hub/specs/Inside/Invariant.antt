@@ -1,19 +1,19 @@
 -- The invariant of a broker.
-use Rattle.std.specs.Prelude.{◌≡◌, ℕ, ◌<◌, ◌≤◌, ◌^◌, true, false, List, [], ◌∷◌, Option, Some, None, is_some, IfSome, if◌then◌else◌}
+use Rattle.std.specs.Prelude.{◌≡◌, ℕ, true, false, List, [], ◌∷◌, None, is_some, if◌then◌else◌, ◌≤◌, Option, Some, ◌<◌, ◌^◌, IfSome}
 use Rattle.std.specs.List.{AllByRecursion}
-use Rattle.mq_packet.specs.declared.connect.Will.{Will}
 use Rattle.mq_packet.specs.declared.message.Message.{Message}
+use Rattle.mq_packet.specs.declared.connect.Will.{Will}
 use Rattle.mq_end.specs.declared.state.State.TheVariants.{Disconnected, Connected}
 use Rattle.mq_end.specs.Sizes.{publish_size}
 use Rattle.mq_route.specs.declared.config.HubConfig.{HubConfig}
+use Rattle.mq_route.specs.Hub.{HubConnection, is_for, knows, up_on, is_clean, stage_for, keep_alive_on}
+use Rattle.mq_route.specs.Copies.{will_message}
 use Rattle.mq_route.specs.declared.connection_state.ConnectionState.{ConnectionState}
 use Rattle.mq_route.specs.declared.connection_state.ConnectionState.TheVariants.{AwaitingConnect, ConnectedAs, Closed}
-use Rattle.mq_route.specs.Copies.{will_message}
-use Rattle.mq_route.specs.Hub.{HubConnection, is_clean, is_for, knows, stage_for, up_on, keep_alive_on}
-use Rattle.mq_hub.specs.declared.connections.table.ConnectionLimits.{ConnectionLimits}
-use Rattle.mq_hub.specs.declared.sessions.session.BrokerSession.{BrokerSession}
-use Rattle.mq_hub.specs.Inside.Sessions.{session_at, AreAscending, AreBelow}
-use Rattle.mq_hub.specs.Inside.View.{HubTables}
+use Rattle.mq_tables.specs.declared.connections.table.ConnectionLimits.{ConnectionLimits}
+use Rattle.mq_tables.specs.declared.sessions.session.BrokerSession.{BrokerSession}
+use Rattle.mq_tables.specs.Sessions.{session_at, AreAscending, AreBelow}
+use Rattle.mq_tables.specs.Tables.{HubTables}
 
 -- the limits of each connection
 abbrev pub limits_of : HubConfig → ConnectionLimits

@@ -1,7 +1,7 @@
 -- The log of each client: the messages taken from it, placed for it and missed by it.
-use Rattle.std.specs.Prelude.{◌≡◌, ℕ, ◌+◌, List, [], ◌∷◌, ◌++◌}
-use Rattle.mq_route.specs.declared.act.Act.{Act}
+use Rattle.std.specs.Prelude.{◌≡◌, [], ℕ, ◌+◌, ◌++◌, List, ◌∷◌}
 use Rattle.mq_route.specs.declared.trace.ClientLog.{ClientLog}
+use Rattle.mq_route.specs.declared.act.Act.{Act}
 use Rattle.mq_route.specs.Routed.{missed_by, placed_by, taken_by}
 
 -- an empty log

@@ -1,34 +1,30 @@
 -- Placing copies of messages for clients (3.3.5, 3.8.4).
-use Rattle.std.specs.Prelude.{◌≡◌, ⊤, ℕ, ◌+◌, ◌≤◌, ◌==◌, ◌&&◌, ◌||◌, Bool, true, false, not, if◌then◌else◌, List, [], ◌∷◌, ◌++◌, length, map, Option, Some, None, is_some, IfSome, IfNone, Result, Err, OnOk, IfErr}
-use Rattle.std.specs.List.{AllByRecursion, flat_map, list_any}
+use Rattle.std.specs.Prelude.{◌≡◌, ℕ, List, is_some, Some, ◌==◌, Bool, false, [], ◌∷◌, map, ◌&&◌, ◌||◌, not, ◌+◌, length, Option, if◌then◌else◌, true}
+use Rattle.std.specs.List.{flat_map, list_any, AllByRecursion}
 use Rattle.mq_topic.specs.declared.qos.Qos.{Qos}
 use Rattle.mq_packet.specs.declared.message.Message.{Message}
-use Rattle.mq_packet.specs.Encoding.{encodings}
 use Rattle.mq_flow.specs.Sender.{is_full}
 use Rattle.mq_flow.specs.Stored.{message_bytes, stored_bytes}
-use Rattle.mq_end.specs.declared.refusal.PublishRefusal.{PublishRefusal}
-use Rattle.mq_end.specs.declared.refusal.PublishRefusal.TheVariants as refusals
 use Rattle.mq_end.specs.Both.{has_identifier}
-use Rattle.mq_end.specs.End.{is_up}
-use Rattle.mq_end.specs.Publishing.{room_left}
-use Rattle.mq_end.specs.Ready.{HasRoom}
-use Rattle.mq_end.specs.Server.{ready_refusal}
-use Rattle.mq_end.specs.Sizes.{publish_size}
-use Rattle.mq_end.specs.State.{EndState, no_room}
+use Rattle.mq_route.specs.Hub.{HubConnection, up_on, for_key, HubState, end_of}
+use Rattle.mq_route.specs.Copies.{copy_by}
 use Rattle.mq_route.specs.declared.act.Act.{Act}
 use Rattle.mq_route.specs.declared.act.Act.TheVariants as acts
-use Rattle.mq_route.specs.Copies.{copy_by}
 use Rattle.mq_route.specs.declared.config.HubConfig.{HubConfig}
-use Rattle.mq_route.specs.Hub.{HubState, HubConnection, end_of, for_key, up_on}
-use Rattle.mq_route.specs.Work.{drops_copies, leaves, publish_bytes, publishes_next}
-use Rattle.mq_hub.specs.declared.publish.rules.CopyRules.{CopyRules}
-use Rattle.mq_hub.specs.declared.publish.rules.QueuedAnswer.{QueuedAnswer}
-use Rattle.mq_hub.specs.declared.publish.space.Space.{Space}
-use Rattle.mq_hub.specs.declared.sessions.session.BrokerSession.{BrokerSession}
+use Rattle.mq_route.specs.Work.{leaves, publish_bytes, drops_copies}
+use Rattle.mq_route.specs.declared.act.Act.TheVariants as acts
+use Rattle.mq_route.specs.declared.act.Act.TheVariants as acts
+use Rattle.mq_tables.specs.declared.sessions.session.BrokerSession.{BrokerSession}
+use Rattle.mq_tables.specs.declared.rules.CopyRules.{CopyRules}
+use Rattle.mq_tables.specs.declared.space.Space.{Space}
+use Rattle.mq_tables.specs.Sessions.{session_at, sessions_of, AreAscending}
+use Rattle.mq_tables.specs.Output.{output_of}
+use Rattle.mq_tables.specs.Rules.{skips, space_after}
+use Rattle.mq_tables.specs.Tables.{HubTables}
+use Rattle.mq_tables.specs.Publishing.{MayGo, IsReadyAt, placed_at}
+use Rattle.mq_hub.specs.declared.publish.queued_answer.QueuedAnswer.{QueuedAnswer}
+use Rattle.mq_hub.specs.Inside.QueuedAnswer.{answer_for}
 use Rattle.mq_hub.specs.Inside.Invariant.{AreApart as AreLinesApart}
-use Rattle.mq_hub.specs.Inside.Rules.{answer_for, skips, space_after}
-use Rattle.mq_hub.specs.Inside.View.{HubTables, output_of}
-use Rattle.mq_hub.specs.Inside.Sessions.{AreAscending, sessions_of, session_at, with_server}
 
 -- ---- what copies there are
 
@@ -50,16 +46,6 @@ abbrev pub AreApart : List (ℕ × Message) → Type 0
 AreApart [] = Unit {0}
 AreApart (c ∷ cs) = (is_among c.0 cs ≡ false) × AreApart cs
 
--- ---- room for them
-
--- A message may be sent by a session, given free identifiers and memory. The session is known
--- (3.1.2.4), its client is connected if the message has quality of service 0 (4.3.1), and the
--- PUBLISH is within the size limit (2.2.3).
-pub record MayGo (m : Message) (s : EndState) : Type 0 where
-  pub known : s.end.known ≡ true
-  pub up : has_identifier m.qos ≡ false → is_up s.end.state ≡ true
-  pub fits : publish_size m ≤ s.limit.most
-
 -- these messages are for a client that has a session, which may send them
 pub record IsFor (key : ℕ) (ms : List Message) (ts : List BrokerSession) : Type 0 where
   pub session : BrokerSession
@@ -75,67 +61,9 @@ pub record HasSessions (ts : List BrokerSession) (h : HubState) : Type 0 where
   pub sessions : h.sessions ≡ sessions_of ts
   pub capacity : AllByRecursion (λ t. t.end.capacity ≡ h.config.capacity) ts
 
--- An end has room for messages and for `more` bytes besides, and refuses none of the messages.
-pub record IsReady (ms : List Message) (more : ℕ) (s : EndState) : Type 0 where
-  pub accepted : ready_refusal s.limit.most s.capacity ms s.end ≡ None
-  pub room : HasRoom ms more s
-
--- the session of a key exists, and its end has this room
-pub record IsReadyAt (key : ℕ) (ms : List Message) (more : ℕ) (ts : List BrokerSession) : Type 0 where
-  pub session : BrokerSession
-  pub there : session_at key ts ≡ Some session
-  pub ready : IsReady ms more session.end
-
 -- the session of each copy has room for it and for `more` bytes besides
 abbrev pub AreReady : ℕ → List BrokerSession → List (ℕ × Message) → Type 0
 AreReady more ts copies = AllByRecursion (λ c. IsReadyAt c.0 (c.1 ∷ []) more ts) copies
-
--- Making room in an end for messages and for `more` bytes besides: the first failing check is
--- reported, or a failed allocation, or the end has the room. Nothing else of the end changes, and
--- earlier room stays.
-pub record Readies (ms : List Message) (more : ℕ) (answer : Result ⊤ PublishRefusal) (old new : EndState) : Type 0 where
-  pub refused : IfSome (ready_refusal old.limit.most old.capacity ms old.end) (λ why. answer ≡ Err why)
-  pub memory : IfNone (ready_refusal old.limit.most old.capacity ms old.end) (IfErr answer (λ why. why ≡ refusals.Memory))
-  pub room : OnOk answer (HasRoom ms more new)
-  pub same : new ≡ record old { room = new.room }
-  pub before : (others : List Message) (n : ℕ) → HasRoom others n old → HasRoom others n new
-
--- Making room in the end of the session of a key.
-pub record ReadiesAt (key : ℕ) (ms : List Message) (more : ℕ) (answer : Result ⊤ PublishRefusal) (old new : List BrokerSession) : Type 0 where
-  pub session : BrokerSession
-  pub there : session_at key old ≡ Some session
-  pub end : EndState
-  pub readies : Readies ms more answer session.end end
-  pub after : new ≡ with_server key end old
-
--- a session, its room disregarded
-abbrev pub roomless : BrokerSession → BrokerSession
-roomless t = record t { end = record t.end { room = no_room } }
-
--- the sessions are the same, except for room
-abbrev pub AreSameButRoom : List BrokerSession → List BrokerSession → Type 0
-AreSameButRoom old new = map roomless new ≡ map roomless old
-
--- each session that had room has it still
-abbrev pub AreStillReady : List BrokerSession → List BrokerSession → Type 0
-AreStillReady old new = (key : ℕ) (ms : List Message) (more : ℕ) → IsReadyAt key ms more old → IsReadyAt key ms more new
-
--- ---- placing
-
--- an end after it published a message, with the next identifier (2.3.1): the packets are queued
-abbrev pub published : Message → EndState → EndState
-published m s = record s {
-  end = (publishes_next m s.end).end;
-  output = s.output ++ encodings (publishes_next m s.end).out;
-  room = room_left m.qos s.room;
-}
-
-abbrev pub publishing : ℕ → Message → BrokerSession → BrokerSession
-publishing key m t = if t.key == key then record t { end = published m t.end } else t
-
--- the sessions after that of a key published a message
-abbrev pub placed_at : ℕ → Message → List BrokerSession → List BrokerSession
-placed_at key m ts = map (publishing key m) ts
 
 -- the sessions after each copy was published by its session, one after another
 abbrev pub placed_all : List (ℕ × Message) → List BrokerSession → List BrokerSession

@@ -1,15 +1,15 @@
 -- The classes of a PUBLISH at a connected end (3.3, 4.3).
-use Rattle.std.specs.Prelude.{◌≡◌, ℕ, Bool, true, false, List, [], ◌∷◌, Option, Some, None}
+use Rattle.std.specs.Prelude.{Bool, true, false, ◌≡◌, [], ◌∷◌, None, ℕ, List, Option, Some}
 use Rattle.mq_packet.specs.declared.packet.Packet.TheVariants as packets
 use Rattle.mq_packet.specs.Publication.{Publication}
 use Rattle.mq_end.specs.declared.happening.Happening.TheVariants as happens
 use Rattle.mq_end.specs.declared.reason.CloseReason.TheVariants as reasons
 use Rattle.mq_end.specs.End.{End, closes, is_up}
 use Rattle.mq_end.specs.Server.{server_gets}
+use Rattle.mq_tables.specs.declared.sessions.session.BrokerSession.{BrokerSession}
+use Rattle.mq_tables.specs.Sessions.{session_at}
 use Rattle.mq_hub.specs.declared.publish.reception.Reception.{Reception}
 use Rattle.mq_hub.specs.declared.publish.reception.Reception.TheVariants.{Handed, Duplicate, WindowFull}
-use Rattle.mq_hub.specs.declared.sessions.session.BrokerSession.{BrokerSession}
-use Rattle.mq_hub.specs.Inside.Sessions.{session_at}
 
 -- with quality of service 2: by whether its identifier fits the window, and whether it is stored
 -- (4.3.3)

@@ -1,6 +1,8 @@
 -- The tables after a packet of a connected client.
 use Rattle.std.specs.Prelude.{◌≡◌, ℕ, List, Ok}
 use Rattle.mq_topic.specs.Rows.{Row}
+use Rattle.mq_packet.specs.declared.packet.Packet.{Packet}
+use Rattle.mq_packet.specs.declared.packet.Packet.TheVariants as packets
 use Rattle.mq_packet.specs.declared.message.Message.{Message}
 use Rattle.mq_packet.specs.declared.packet.Request.{Request}
 use Rattle.mq_end.specs.declared.packet_outcome.PacketOutcome.{PacketOutcome}
@@ -9,16 +11,25 @@ use Rattle.mq_route.specs.declared.config.HubConfig.{HubConfig}
 use Rattle.mq_route.specs.Arrives.{granted}
 use Rattle.mq_route.specs.Hub.{for_key}
 use Rattle.mq_route.specs.Work.{retained_copies}
-use Rattle.mq_hub.specs.declared.publish.rules.CopyRules.{CopyRules}
-use Rattle.mq_hub.specs.declared.sessions.call.Call.{Call}
-use Rattle.mq_hub.specs.declared.sessions.call.Call.TheVariants.{Grants}
-use Rattle.mq_hub.specs.declared.sessions.session.BrokerSession.{BrokerSession}
-use Rattle.mq_hub.specs.Inside.Calls.{ServesAt}
-use Rattle.mq_hub.specs.Inside.Placement.{placed_all, AreSameButRoom, IsReadyAt, Settles}
+use Rattle.mq_tables.specs.declared.sessions.call.Call.{Call}
+use Rattle.mq_tables.specs.declared.sessions.session.BrokerSession.{BrokerSession}
+use Rattle.mq_tables.specs.declared.rules.CopyRules.{CopyRules}
+use Rattle.mq_tables.specs.declared.sessions.call.Call.TheVariants.{Grants}
+use Rattle.mq_tables.specs.Publishing.{AreSameButRoom, IsReadyAt}
+use Rattle.mq_tables.specs.Tables.{HubTables}
+use Rattle.mq_tables.specs.Calls.{ServesAt}
+use Rattle.mq_tables.specs.Subscriptions.{with_rows}
+use Rattle.mq_tables.specs.Rules.{rules_of}
+use Rattle.mq_hub.specs.Inside.Placement.{placed_all, Settles}
 use Rattle.mq_hub.specs.Inside.Invariant.{HubInvariant}
-use Rattle.mq_hub.specs.Inside.View.{HubTables}
-use Rattle.mq_hub.specs.Inside.Subscriptions.{with_rows}
-use Rattle.mq_hub.specs.Inside.Rules.{rules_of}
+
+-- a packet is not PUBLISH, SUBSCRIBE or UNSUBSCRIBE, so that a connected end reports no request of
+-- it
+abbrev pub RequestsNothing : Packet → Type 0
+RequestsNothing (packets.Publish p) = ⊥
+RequestsNothing (packets.Subscribe i requests) = ⊥
+RequestsNothing (packets.Unsubscribe i filters) = ⊥
+RequestsNothing p = Unit {0}
 
 -- The tables are the same, except for the room of their sessions.
 pub record AreAlike (old new : HubTables) : Type 0 where

@@ -1,18 +1,20 @@
 -- Copies that are due, of which some may be missed (2.3.1).
-use Rattle.std.specs.Prelude.{◌≡◌, ◌||◌, ℕ, Bool, true, false, [], ◌∷◌, ◌++◌, List, if◌then◌else◌, is_some, IfSome}
+use Rattle.std.specs.Prelude.{◌≡◌, ℕ, [], ◌∷◌, ◌++◌, List, if◌then◌else◌, ◌||◌, Bool, is_some, true, false, IfSome}
 use Rattle.mq_packet.specs.declared.message.Message.{Message}
 use Rattle.mq_route.specs.declared.act.Act.TheVariants as acts
 use Rattle.mq_route.specs.declared.config.HubConfig.{HubConfig}
-use Rattle.mq_route.specs.Hub.{for_key}
+use Rattle.mq_route.specs.declared.act.Act.TheVariants as acts
 use Rattle.mq_route.specs.Work.{drops_copies}
-use Rattle.mq_hub.specs.declared.publish.rules.CopyRules.{CopyRules}
+use Rattle.mq_route.specs.declared.act.Act.TheVariants as acts
+use Rattle.mq_route.specs.Hub.{for_key}
+use Rattle.mq_tables.specs.declared.sessions.session.BrokerSession.{BrokerSession}
+use Rattle.mq_tables.specs.declared.rules.CopyRules.{CopyRules}
+use Rattle.mq_tables.specs.declared.space.Space.{Space}
+use Rattle.mq_tables.specs.Rules.{skips, space_after, space_of}
+use Rattle.mq_tables.specs.Sessions.{session_at}
 use Rattle.mq_hub.specs.declared.publish.settle.SettledCopies.{SettledCopies}
 use Rattle.mq_hub.specs.declared.publish.settle.SettledMessages.{SettledMessages}
-use Rattle.mq_hub.specs.declared.publish.space.Space.{Space}
-use Rattle.mq_hub.specs.declared.sessions.session.BrokerSession.{BrokerSession}
-use Rattle.mq_hub.specs.Inside.Placement.{first_fitting, fitting_acts, misses, placed_acts}
-use Rattle.mq_hub.specs.Inside.Rules.{skips, space_after, space_of}
-use Rattle.mq_hub.specs.Inside.Sessions.{session_at}
+use Rattle.mq_hub.specs.Inside.Placement.{misses, first_fitting, fitting_acts, placed_acts}
 
 -- A copy was settled after others: it is kept or missed.
 pub record IsSettled (config : HubConfig) (queued : ℕ → ℕ) (ts : List BrokerSession) (c : ℕ × Message) (old new : SettledCopies) : Type 0 where

@@ -1,17 +1,18 @@
 -- A part of a step on the tables, with the room that was made in them.
-use Rattle.std.specs.Prelude.{◌≡◌, ℕ, ◌≤◌, Bool, List}
-use Rattle.mq_route.specs.declared.act.Act.{Act}
+use Rattle.std.specs.Prelude.{ℕ, ◌≡◌, ◌≤◌, List, Bool}
 use Rattle.mq_route.specs.declared.config.HubConfig.{HubConfig}
+use Rattle.mq_route.specs.Hub.{key_of, stage_of}
+use Rattle.mq_route.specs.declared.act.Act.{Act}
 use Rattle.mq_route.specs.declared.conn.Conn.{Conn}
 use Rattle.mq_route.specs.declared.connection_state.ConnectionState.TheVariants.{AwaitingConnect}
-use Rattle.mq_route.specs.Hub.{key_of, stage_of}
 use Rattle.mq_route.specs.Work.{Work}
-use Rattle.mq_hub.specs.declared.publish.rules.CopyRules.{CopyRules}
-use Rattle.mq_hub.specs.Inside.Refinement.{Refines}
+use Rattle.mq_tables.specs.declared.rules.CopyRules.{CopyRules}
+use Rattle.mq_tables.specs.Tables.{HubTables}
+use Rattle.mq_tables.specs.Sessions.{sessions_of}
+use Rattle.mq_tables.specs.Rules.{rules_of}
 use Rattle.mq_hub.specs.Inside.Invariant.{HubInvariant}
-use Rattle.mq_hub.specs.Inside.View.{HubTables, hub_of}
-use Rattle.mq_hub.specs.Inside.Sessions.{sessions_of}
-use Rattle.mq_hub.specs.Inside.Rules.{rules_of}
+use Rattle.mq_hub.specs.Inside.Refinement.{Refines}
+use Rattle.mq_hub.specs.Inside.View.{hub_of}
 
 -- These are the tables of a broker.
 pub record AreHubTables (t : HubTables) : Type 0 where

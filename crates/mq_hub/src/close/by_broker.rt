@@ -6,9 +6,10 @@ ghost use Rattle.mq_route.specs.Work.{close};
 ghost use Rattle.mq_hub.specs.Inside.Refinement.{Refines};
 
 use crate::acts::ActLog;
+use crate::close::disconnect::close_up;
 use crate::hub::HubOver;
-use crate::publish::rules::rules_of;
 use mq_route::{Act, Conn, HubClose};
+use mq_tables::rules_of;
 use mq_topic::FilterStore;
 
 impl<S: FilterStore> HubOver<S> {
@@ -38,8 +39,16 @@ impl<S: FilterStore> HubOver<S> {
             Some(key) => {
                 let rules = rules_of(&self.config);
                 let now = self.clock;
-                self.tables
-                    .close_up(self.alloc, rules, conn, key, why, now, log);
+                close_up(
+                    &mut self.tables,
+                    self.alloc,
+                    rules,
+                    conn,
+                    key,
+                    why,
+                    now,
+                    log,
+                );
             }
             None => self.close_idle(conn, why, log),
         }

@@ -1,69 +1,22 @@
 //! Accepts a CONNECT for a new session (3.1.2.4, 3.1.4, 3.2).
 
-ghost use Rattle.std.specs.Prelude.{◌≡◌, ◌+◌, ◌≤◌, ◌<◌, ◌^◌, ◌==◌, ◌&&◌, not, [], ◌∷◌, ◌++◌, true, false, Some, None, length, IfOk, OnOk, OnErr};
+ghost use Rattle.std.specs.Prelude.{◌≡◌, ◌+◌, ◌≤◌, ◌<◌, ◌^◌, ◌==◌, ◌&&◌, not, false, Some, None, length, IfOk, OnOk, OnErr};
 ghost use Rattle.mq_route.specs.Arrives.{start_session, terms_of};
-ghost use Rattle.mq_route.specs.Hub.{key_of, stage_of, up_on, with_connection};
+ghost use Rattle.mq_route.specs.Hub.{key_of, stage_of, up_on};
 ghost use Rattle.mq_route.specs.Work.{remove};
 ghost use Rattle.mq_hub.specs.Inside.Refinement.{Refines};
 ghost use Rattle.mq_hub.specs.Inside.Invariant.{IsWillWithin};
 ghost use Rattle.mq_hub.specs.Inside.ConnectRoom.{IsNewSession};
-ghost use Rattle.mq_hub.specs.Inside.Sessions.{sessions_of, AreBelow};
 
 use crate::acts::ActLog;
-use crate::connect::resume::{connect_with_room, terms_of};
+use crate::connect::resume::terms_of;
 use crate::hub::HubOver;
-use crate::sessions::session::{BoxedSession, BrokerSession};
-use crate::tables::Tables;
 use mq_packet::{BoxedConnect, Connect};
 use mq_route::{Act, Conn, ConnectionState, ConnectionTerms};
+use mq_tables::{Beginning, BoxedSession, BrokerSession, connect_with_room};
 use mq_topic::{ClientKey, FilterStore};
 use mq_wire::Text;
 use std::alloc::AllocError;
-
-/// A session that has processed its CONNECT but is not in the table yet.
-#[derive(Drop)]
-pub(crate) struct Beginning {
-    pub(crate) name: Text,
-    pub(crate) boxed: BoxedSession,
-    pub(crate) terms: ConnectionTerms,
-}
-
-impl<S: FilterStore> Tables<S> {
-    /// Makes room for one more session and one more connected client. On `Err` only reserved
-    /// capacity may have changed.
-    pub(crate) fn reserve_session(&mut self) -> Result<(), AllocError>
-        ensures ok { OnOk result ((0 < self.new.sessions.room) × (0 < self.new.connections.up_room)) }
-        ensures list { self.new.sessions.list ≡ self.old.sessions.list }
-        ensures connections { self.new.connections.connections ≡ self.old.connections.connections }
-        ensures limits { self.new.connections.limits ≡ self.old.connections.limits }
-        ensures rest { self.new ≡ record self.old { sessions = self.new.sessions; connections = self.new.connections } }
-    {
-        self.sessions.reserve(1)?;
-        self.connections.reserve(1)
-    }
-
-    /// Adds a session, whose key must be above all others and whose client must have no other
-    /// session. The connection is connected for it.
-    pub(crate) fn begin(&mut self, conn: Conn, beginning: Beginning, now: u64)
-        requires name { beginning.name ≡ beginning.boxed.client }
-        requires stage { stage_of conn self.old.connections.connections ≡ ConnectionState.AwaitingConnect }
-        requires away { up_on beginning.boxed.key self.old.connections.connections ≡ None }
-        requires key { AreBelow beginning.boxed.key self.old.sessions.list }
-        requires client { key_of beginning.boxed.client (sessions_of self.old.sessions.list) ≡ None }
-        requires room { 0 < self.old.sessions.room }
-        requires up_room { 0 < self.old.connections.up_room }
-        ensures list { self.new.sessions.list ≡ self.old.sessions.list ++ beginning.boxed ∷ [] }
-        ensures connections { self.new.connections.connections
-            ≡ with_connection (λ x. record x { stage = ConnectionState.ConnectedAs beginning.boxed.key beginning.terms now }) conn self.old.connections.connections }
-        ensures limits { self.new.connections.limits ≡ self.old.connections.limits }
-        ensures rest { self.new ≡ record self.old { sessions = self.new.sessions; connections = self.new.connections } }
-    {
-        let Beginning { name, boxed, terms } = beginning;
-        let key = boxed.session().key;
-        self.sessions.insert(name, boxed);
-        self.connections.connect_end(conn, key, terms, now);
-    }
-}
 
 // Returns the terms of a CONNECT, and a second handle to the client identifier.
 fn terms_and_name(connect: &Connect, client: &Text) -> Result<(ConnectionTerms, Text), AllocError>

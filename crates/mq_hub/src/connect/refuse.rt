@@ -1,14 +1,13 @@
 //! Refuses a CONNECT (3.2.2.3).
 
-ghost use Rattle.std.specs.Prelude.{◌≡◌, ◌+◌, ◌≤◌, ◌<◌, Bool, [], ◌∷◌, true, IfOk, OnOk, OnErr};
+ghost use Rattle.std.specs.Prelude.{◌≡◌, ◌+◌, ◌≤◌, ◌<◌, Bool, [], ◌∷◌, IfOk, OnOk, OnErr};
 ghost use Rattle.mq_packet.specs.Encoding.{encodings};
-ghost use Rattle.mq_route.specs.Hub.{knows, stage_of, with_connection};
+ghost use Rattle.mq_route.specs.Hub.{stage_of};
 ghost use Rattle.mq_hub.specs.Inside.Refinement.{Refines};
 ghost use Rattle.mq_hub.specs.Inside.ConnectChecks.{refused};
 
 use crate::acts::ActLog;
 use crate::hub::HubOver;
-use crate::tables::Tables;
 use mq_end::{ByteQueue, CloseReason};
 use mq_packet::{ConnAck, Packet, RefusalCode, encoding_laws};
 use mq_route::{Act, Conn, ConnectionState, HubClose};
@@ -23,21 +22,6 @@ fn bytes_of(alloc: Global, packet: &Packet) -> Result<ByteQueue, AllocError>
     let mut bytes = ByteQueue::new(alloc);
     bytes.append_packet(packet)?;
     Ok(bytes)
-}
-
-impl<S: FilterStore> Tables<S> {
-    // Closes a connection, with these bytes as its pending output.
-    fn shut_with(&mut self, conn: Conn, waiting: ByteQueue)
-        requires { knows conn self.old.connections.connections ≡ true }
-        ensures connections { self.new.connections.connections
-            ≡ with_connection (λ x. record x { stage = ConnectionState.Closed; held = []; waiting = waiting }) conn self.old.connections.connections }
-        ensures limits { self.new.connections.limits ≡ self.old.connections.limits }
-        ensures rest { self.new ≡ record self.old { connections = self.new.connections } }
-    {
-        let mut bytes = waiting;
-        self.connections.swap_waiting(conn, &mut bytes);
-        let _ = self.connections.shut(conn);
-    }
 }
 
 impl<S: FilterStore> HubOver<S> {

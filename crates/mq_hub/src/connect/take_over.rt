@@ -1,61 +1,61 @@
 //! Accepts a CONNECT of a client that is connected on another connection (3.1.4).
 
-ghost use Rattle.std.specs.Prelude.{◌≡◌, ◌≤◌, ◌<◌, ◌^◌, ◌+◌, ◌==◌, ◌&&◌, ◌||◌, ℕ, List, not, Bool, true, false, Some, None, length, is_some, IfSome};
-ghost use Rattle.std.specs.Prelude.{OnOk, OnErr};
+ghost use Rattle.std.specs.Prelude.{◌≡◌, ◌≤◌, ◌<◌, ◌^◌, ◌+◌, ◌==◌, ◌&&◌, ◌||◌, ℕ, List, not, Bool, true, false, Some, None, length, is_some, IfSome, OnOk, OnErr};
 ghost use Rattle.mq_route.specs.Arrives.{accept_connect, start_session};
 ghost use Rattle.mq_route.specs.declared.close.HubClose.TheVariants.{TakenOver};
 ghost use Rattle.mq_route.specs.Hub.{is_clean, key_of, key_on, stage_of, up_on};
 ghost use Rattle.mq_route.specs.Welcome.{ends_with};
 ghost use Rattle.mq_route.specs.Work.{close, remove_if};
+ghost use Rattle.mq_tables.specs.Sessions.{sessions_of};
 ghost use Rattle.mq_hub.specs.Inside.Close.{close_at};
 ghost use Rattle.mq_hub.specs.Inside.Refinement.{Refines};
 ghost use Rattle.mq_hub.specs.Inside.Invariant.{IsWillWithin};
 ghost use Rattle.mq_hub.specs.Inside.TableSteps.{AreHubTables, Proceeds};
-ghost use Rattle.mq_hub.specs.Inside.Sessions.{sessions_of};
 
 use crate::acts::ActLog;
+use crate::close::disconnect::close_up;
 use crate::hub::HubOver;
-use crate::publish::rules::{CopyRules, rules_of};
-use crate::tables::Tables;
 use mq_packet::{BoxedConnect, Connect};
 use mq_route::{Act, Conn, ConnectionState, HubClose};
+use mq_tables::{CopyRules, Tables, rules_of};
 use mq_topic::{ClientKey, FilterStore};
 use mq_wire::Text;
 use std::alloc::{AllocError, Global};
 
-impl<S: FilterStore> Tables<S> {
-    fn up_on(&self, key: ClientKey) -> Option<Conn>
-        ensures { result ≡ up_on key self.now.connections.connections }
-    {
-        self.connections.up_on(key)
-    }
-
-    // Closes the connection of a client for another one (3.1.4), publishes its will or reports it
-    // as dropped, and ends its session (3.1.2.4). Room reserved before stays reserved.
-    fn take_over_ending(
-        &mut self,
-        alloc: Global,
-        rules: CopyRules,
-        conn: Conn,
-        key: ClientKey,
-        now: u64,
-        log: &mut ActLog,
-    )
-        requires hubs { AreHubTables self.old }
-        requires up { key_on (stage_of conn self.old.connections.connections) ≡ Some key }
-        requires room { 4 ≤ log.old.room }
-        ensures proceeds { Proceeds rules (λ fits w. remove_if (not (is_clean (stage_of conn self.old.connections.connections))) key (close_at now conn TakenOver fits w))
-            self.old log.old.acts self.new log.new.acts }
-        ensures gone { (n : List ℕ) → key_of n (sessions_of self.old.sessions.list) ≡ Some key
-            → key_of n (sessions_of self.new.sessions.list) ≡ None }
-        ensures room { log.old.room ≤ log.new.room + 4 }
-    {
-        let ends = self.is_clean(conn);
-        self.close_up(alloc, rules, conn, key, HubClose::TakenOver, now, log);
-        if !ends {
-            self.remove(key);
-            log.push(Act::Removed(key));
-        }
+// Closes the connection of a client for another one (3.1.4), publishes its will or reports it
+// as dropped, and ends its session (3.1.2.4). Room reserved before stays reserved.
+fn take_over_ending<S: FilterStore>(
+    tables: &mut Tables<S>,
+    alloc: Global,
+    rules: CopyRules,
+    conn: Conn,
+    key: ClientKey,
+    now: u64,
+    log: &mut ActLog,
+)
+    requires hubs { AreHubTables tables.old }
+    requires up { key_on (stage_of conn tables.old.connections.connections) ≡ Some key }
+    requires room { 4 ≤ log.old.room }
+    ensures proceeds { Proceeds rules (λ fits w. remove_if (not (is_clean (stage_of conn tables.old.connections.connections))) key (close_at now conn TakenOver fits w))
+        tables.old log.old.acts tables.new log.new.acts }
+    ensures gone { (n : List ℕ) → key_of n (sessions_of tables.old.sessions.list) ≡ Some key
+        → key_of n (sessions_of tables.new.sessions.list) ≡ None }
+    ensures room { log.old.room ≤ log.new.room + 4 }
+{
+    let ends = tables.is_clean(conn);
+    close_up(
+        tables,
+        alloc,
+        rules,
+        conn,
+        key,
+        HubClose::TakenOver,
+        now,
+        log,
+    );
+    if !ends {
+        tables.remove(key);
+        log.push(Act::Removed(key));
     }
 }
 
@@ -105,8 +105,15 @@ impl<S: FilterStore> HubOver<S> {
         log.reserve_more(5)?;
         self.tables.reserve_session()?;
         let rules = rules_of(&self.config);
-        self.tables
-            .take_over_ending(self.alloc, rules, other, key, self.clock, log);
+        take_over_ending(
+            &mut self.tables,
+            self.alloc,
+            rules,
+            other,
+            key,
+            self.clock,
+            log,
+        );
         self.tables.begin(conn, beginning, self.clock);
         self.next_key += 1;
         log.push(Act::Up(conn, next, false));

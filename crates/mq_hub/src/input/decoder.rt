@@ -3,7 +3,7 @@
 ghost use Rattle.std.specs.Prelude.{◌≡◌, None, true, IfSome};
 ghost use Rattle.mq_end.specs.End.{is_up};
 ghost use Rattle.mq_route.specs.Hub.{end_of, held_on, key_on, knows, stage_of};
-ghost use Rattle.mq_hub.specs.Inside.Connections.{IsDecoding};
+ghost use Rattle.mq_tables.specs.Connections.{IsDecoding};
 ghost use Rattle.mq_hub.specs.Inside.Input.{with_touched, with_held};
 
 use crate::hub::HubOver;

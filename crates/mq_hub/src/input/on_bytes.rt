@@ -5,7 +5,7 @@ ghost use Rattle.mq_route.specs.declared.act.Act.{Act};
 ghost use Rattle.mq_route.specs.Hub.{held_on, is_open, knows, stage_of};
 ghost use Rattle.mq_route.specs.Step.{HubStep};
 ghost use Rattle.mq_route.specs.StepSome.{HubStepSome};
-ghost use Rattle.mq_hub.specs.Inside.Connections.{IsDecoding};
+ghost use Rattle.mq_tables.specs.Connections.{IsDecoding};
 ghost use Rattle.mq_hub.specs.Inside.Input.{RefinesBytes, IsNext, goes_on, with_held};
 
 use crate::acts::ActLog;

@@ -1,37 +1,34 @@
 //! Handles a packet of a connected client that changes only its session's end (3.3 to 3.14).
 
-ghost use Rattle.std.specs.Prelude.{◌≡◌, ℕ, List, [], Bool, true, None, is_some, OnOk, OnErr};
+ghost use Rattle.std.specs.Prelude.{◌≡◌, List, [], Bool, true, None, is_some, OnOk, OnErr};
 ghost use Rattle.mq_end.specs.Server.{server_gets};
 ghost use Rattle.mq_route.specs.declared.act.Act.{Act};
 ghost use Rattle.mq_route.specs.declared.conn.Conn.{Conn};
 ghost use Rattle.mq_route.specs.Arrives.{on_passed_packet};
 ghost use Rattle.mq_route.specs.Hub.{end_of, up_on};
+ghost use Rattle.mq_tables.specs.Calls.{CanServe};
 ghost use Rattle.mq_hub.specs.Inside.Requests.{AreAlike, Answers};
-ghost use Rattle.mq_hub.specs.Inside.Calls.{CanServe};
 ghost use Rattle.mq_hub.specs.Inside.Refinement.{Refines};
 
 use crate::hub::HubOver;
-use crate::sessions::call::Call;
-use crate::tables::Tables;
 use mq_packet::Packet;
+use mq_tables::{Call, Tables};
 use mq_topic::{ClientKey, FilterStore};
 use std::alloc::AllocError;
 
-impl<S: FilterStore> Tables<S> {
-    /// Has the end of a session process a packet.
-    pub(crate) fn take(
-        &mut self,
-        key: ClientKey,
-        now: u64,
-        packet: Packet,
-    ) -> Result<(), AllocError>
-        requires { CanServe key (Call.Takes now packet) self.old.sessions.list }
-        ensures ok { OnOk result (Answers key (Call.Takes now packet) self.old.rows self.old self.new) }
-        ensures err { OnErr result (AreAlike self.old self.new) }
-    {
-        let _ = self.sessions.serve(key, Call::Takes(now, packet))?;
-        Ok(())
-    }
+/// Has the end of a session process a packet.
+pub(crate) fn take<S: FilterStore>(
+    tables: &mut Tables<S>,
+    key: ClientKey,
+    now: u64,
+    packet: Packet,
+) -> Result<(), AllocError>
+    requires { CanServe key (Call.Takes now packet) tables.old.sessions.list }
+    ensures ok { OnOk result (Answers key (Call.Takes now packet) tables.old.rows tables.old tables.new) }
+    ensures err { OnErr result (AreAlike tables.old tables.new) }
+{
+    let _ = tables.sessions.serve(key, Call::Takes(now, packet))?;
+    Ok(())
 }
 
 impl<S: FilterStore> HubOver<S> {
@@ -46,6 +43,6 @@ impl<S: FilterStore> HubOver<S> {
         ensures err { OnErr result (self.new ≡ self.old) }
     {
         let now = self.clock;
-        self.tables.take(key, now, packet)
+        take(&mut self.tables, key, now, packet)
     }
 }

@@ -8,7 +8,7 @@ ghost use Rattle.mq_end.specs.Sizes.{subscribe_size};
 ghost use Rattle.mq_route.specs.Arrives.{on_connected_packet, on_passed_packet};
 ghost use Rattle.mq_route.specs.Hub.{end_of, is_open, stage_of, up_on};
 ghost use Rattle.mq_route.specs.Work.{leaves};
-ghost use Rattle.mq_hub.specs.Inside.Calls.{RequestsNothing};
+ghost use Rattle.mq_hub.specs.Inside.Requests.{RequestsNothing};
 ghost use Rattle.mq_hub.specs.Inside.Refinement.{Refines};
 
 use crate::acts::ActLog;

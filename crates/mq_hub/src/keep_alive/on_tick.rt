@@ -5,16 +5,16 @@ ghost use Rattle.std.specs.List.Sorted.{IsNonDecreasing};
 ghost use Rattle.mq_end.specs.KeepAlive.{is_late};
 ghost use Rattle.mq_route.specs.Hub.{knows};
 ghost use Rattle.mq_route.specs.Step.{HubStep, told};
-ghost use Rattle.mq_hub.specs.Inside.Connections.{connection_of};
+ghost use Rattle.mq_tables.specs.Connections.{connection_of};
+ghost use Rattle.mq_tables.specs.Late.{AreInTime, HasLate};
 ghost use Rattle.mq_hub.specs.Deadline.{IsIdleBefore};
-ghost use Rattle.mq_hub.specs.Inside.Tick.{AreInTime, HasLate, TicksTo, late_of};
+ghost use Rattle.mq_hub.specs.Inside.Tick.{TicksTo, late_of};
 
 use crate::acts::ActLog;
-use crate::connections::connection::Connection;
 use crate::hub::HubOver;
-use crate::keep_alive::expiry::has_passed;
 use mq_end::CloseReason;
 use mq_route::{Conn, ConnectionState, HubClose, HubEvent, HubRefusal, HubReply};
+use mq_tables::{Connection, has_passed};
 use mq_topic::FilterStore;
 use std::alloc::AllocError;
 

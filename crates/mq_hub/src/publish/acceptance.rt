@@ -4,40 +4,38 @@ ghost use Rattle.std.specs.Prelude.{◌≡◌, ℕ, List, true, None, Some, OnOk
 ghost use Rattle.mq_packet.specs.declared.message.Message.{Message};
 ghost use Rattle.mq_packet.specs.Publication.{fits_delivery};
 ghost use Rattle.mq_route.specs.Hub.{end_of};
+ghost use Rattle.mq_tables.specs.Calls.{CanServe, publish_call, reply_of};
+ghost use Rattle.mq_tables.specs.Sessions.{sessions_of};
 ghost use Rattle.mq_hub.specs.Inside.Requests.{AreAlike, Answers};
-ghost use Rattle.mq_hub.specs.Inside.Calls.{CanServe, publish_call, reply_of};
 ghost use Rattle.mq_hub.specs.Inside.Placement.{AreReady, HaveQueued, HaveSameBooks};
-ghost use Rattle.mq_hub.specs.Inside.Rules.{publish_answer};
-ghost use Rattle.mq_hub.specs.Inside.Sessions.{sessions_of};
+ghost use Rattle.mq_hub.specs.Inside.QueuedAnswer.{publish_answer};
 
-use crate::tables::Tables;
 use mq_packet::{Delivery, Message};
+use mq_tables::Tables;
 use mq_topic::{ClientKey, FilterStore};
 use std::alloc::AllocError;
 
-impl<S: FilterStore> Tables<S> {
-    /// Has the end of a connected client process a PUBLISH whose message is new. Sessions with room
-    /// for messages and for the seven bytes of PUBACK or PUBREC still have room for the messages
-    /// afterwards (3.4, 3.5).
-    #[inline(always)]
-    pub(crate) fn take_publish(
-        &mut self,
-        key: ClientKey,
-        now: u64,
-        message: &Message,
-        delivery: Option<Delivery>,
-    ) -> Result<(), AllocError>
-        requires fits { fits_delivery message.now.qos delivery ≡ true }
-        requires can { CanServe key (publish_call now message.now delivery) self.old.sessions.list }
-        requires stays { (reply_of (publish_call now message.now delivery) (end_of key (sessions_of self.old.sessions.list))).close ≡ None }
-        ensures ok { OnOk result (Answers key (publish_call now message.now delivery) self.old.rows self.old self.new) }
-        ensures ready { OnOk result ((copies : List (ℕ × Message)) → AreReady 7 self.old.sessions.list copies
-            → AreReady 0 self.new.sessions.list copies) }
-        ensures books { OnOk result (HaveSameBooks self.old.sessions.list self.new.sessions.list) }
-        ensures outputs { OnOk result (HaveQueued (Some (publish_answer key delivery)) self.old.sessions.list self.new.sessions.list) }
-        ensures err { OnErr result (AreAlike self.old self.new) }
-    {
-        let _ = self.sessions.take_publish(key, now, message, delivery)?;
-        Ok(())
-    }
+/// Has the end of a connected client process a PUBLISH whose message is new. Sessions with room
+/// for messages and for the seven bytes of PUBACK or PUBREC still have room for the messages
+/// afterwards (3.4, 3.5).
+#[inline(always)]
+pub(crate) fn take_publish<S: FilterStore>(
+    tables: &mut Tables<S>,
+    key: ClientKey,
+    now: u64,
+    message: &Message,
+    delivery: Option<Delivery>,
+) -> Result<(), AllocError>
+    requires fits { fits_delivery message.now.qos delivery ≡ true }
+    requires can { CanServe key (publish_call now message.now delivery) tables.old.sessions.list }
+    requires stays { (reply_of (publish_call now message.now delivery) (end_of key (sessions_of tables.old.sessions.list))).close ≡ None }
+    ensures ok { OnOk result (Answers key (publish_call now message.now delivery) tables.old.rows tables.old tables.new) }
+    ensures ready { OnOk result ((copies : List (ℕ × Message)) → AreReady 7 tables.old.sessions.list copies
+        → AreReady 0 tables.new.sessions.list copies) }
+    ensures books { OnOk result (HaveSameBooks tables.old.sessions.list tables.new.sessions.list) }
+    ensures outputs { OnOk result (HaveQueued (Some (publish_answer key delivery)) tables.old.sessions.list tables.new.sessions.list) }
+    ensures err { OnErr result (AreAlike tables.old tables.new) }
+{
+    let _ = tables.sessions.take_publish(key, now, message, delivery)?;
+    Ok(())
 }

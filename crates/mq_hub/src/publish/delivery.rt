@@ -6,19 +6,21 @@ ghost use Rattle.mq_route.specs.declared.config.HubConfig.{HubConfig};
 ghost use Rattle.mq_route.specs.Copies.{kept};
 ghost use Rattle.mq_route.specs.Hub.{HubState, copies_of};
 ghost use Rattle.mq_route.specs.Work.{deliver, have_room};
+ghost use Rattle.mq_tables.specs.Publishing.{AreSameButRoom, AreStillReady};
+ghost use Rattle.mq_tables.specs.Retained.{IsKeptOf};
+ghost use Rattle.mq_tables.specs.Rules.{rules_of};
+ghost use Rattle.mq_tables.specs.Tables.{HubTables};
 ghost use Rattle.mq_hub.specs.Inside.Refinement.{Refines};
-ghost use Rattle.mq_hub.specs.Inside.Placement.{placed_all, with_retained, with_list, AreApart, AreFor, AreReady, AreSameButRoom, AreStillReady, CanPlace, HasSessions, Settles};
-ghost use Rattle.mq_hub.specs.Inside.Retained.{IsKeptOf};
-ghost use Rattle.mq_hub.specs.Inside.Rules.{answer_for, rules_of};
-ghost use Rattle.mq_hub.specs.Inside.View.{HubTables, hub_of};
+ghost use Rattle.mq_hub.specs.Inside.Placement.{placed_all, with_retained, with_list, AreApart, AreFor, AreReady, CanPlace, HasSessions, Settles};
+ghost use Rattle.mq_hub.specs.Inside.QueuedAnswer.{answer_for};
+ghost use Rattle.mq_hub.specs.Inside.View.{hub_of};
 
 use crate::acts::ActLog;
 use crate::publish::enqueue::{PlannedCopy, make_room, place_all, push_placed};
-use crate::publish::rules::{CopyRules, QueuedAnswer};
+use crate::publish::queued_answer::QueuedAnswer;
 use crate::publish::settle::{SettledCopies, settle};
-use crate::retained::{Retained, RetainedEntry};
-use crate::sessions::table::Sessions;
 use mq_route::Act;
+use mq_tables::{CopyRules, Retained, RetainedEntry, Sessions};
 use std::alloc::{AllocError, Global};
 use std::mem;
 

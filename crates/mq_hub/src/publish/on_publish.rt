@@ -15,11 +15,14 @@ ghost use Rattle.mq_hub.specs.Inside.Reception.{IsReceived};
 
 use crate::acts::ActLog;
 use crate::hub::HubOver;
+use crate::publish::acceptance::take_publish;
+use crate::publish::queued_answer::publish_answer;
 use crate::publish::reception::Reception;
-use crate::publish::rules::{publish_answer, rules_of};
+use crate::publish::reserve::{deliver, plan_delivery, reserve_delivery};
 use mq_end::CloseReason;
 use mq_packet::{Packet, Publish};
 use mq_route::{Act, Conn, HubClose};
+use mq_tables::rules_of;
 use mq_topic::{ClientKey, FilterStore};
 use std::alloc::AllocError;
 
@@ -55,17 +58,22 @@ impl<S: FilterStore> HubOver<S> {
         let now = self.clock;
         let delivery = publish.delivery();
         let message = publish.into_message();
-        let mut plan = self.tables.plan_delivery(self.alloc, &message)?;
+        let mut plan = plan_delivery(&self.tables, self.alloc, &message)?;
         let rules = rules_of(&self.config);
         let answer = Some(publish_answer(key, delivery));
-        if !self
-            .tables
-            .reserve_delivery(self.alloc, rules, answer, &mut plan, ACKNOWLEDGEMENT, log)?
-        {
+        if !reserve_delivery(
+            &mut self.tables,
+            self.alloc,
+            rules,
+            answer,
+            &mut plan,
+            ACKNOWLEDGEMENT,
+            log,
+        )? {
             return Ok(false);
         }
-        self.tables.take_publish(key, now, &message, delivery)?;
-        self.tables.deliver(Act::Took(key, message), plan, log);
+        take_publish(&mut self.tables, key, now, &message, delivery)?;
+        deliver(&mut self.tables, Act::Took(key, message), plan, log);
         Ok(true)
     }
 

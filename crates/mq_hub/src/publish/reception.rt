@@ -5,14 +5,14 @@ ghost use Rattle.std.specs.FinSet as set;
 ghost use Rattle.mq_flow.specs.Window.{fits_window};
 ghost use Rattle.mq_end.specs.End.{is_up};
 ghost use Rattle.mq_route.specs.Hub.{end_of, up_on};
+ghost use Rattle.mq_tables.specs.Sessions.{sessions_of};
 ghost use Rattle.mq_hub.specs.Inside.Reception.{CanReceive, IsReceived, by_identifier};
-ghost use Rattle.mq_hub.specs.Inside.Sessions.{sessions_of};
 
 use crate::hub::HubOver;
-use crate::tables::Tables;
 use mq_end::ServerEnd;
 use mq_flow::Receiver;
 use mq_packet::{PacketId, Publish};
+use mq_tables::Tables;
 use mq_topic::{ClientKey, FilterStore, Qos};
 
 /// The class of a PUBLISH (4.3).
@@ -61,16 +61,19 @@ fn reception_at(end: &ServerEnd, publish: &Publish, window: Option<u16>) -> Rece
     }
 }
 
-impl<S: FilterStore> Tables<S> {
-    fn reception(&self, key: ClientKey, publish: &Publish, window: Option<u16>) -> Reception
-        requires { CanReceive key window self.now.sessions.list }
-        ensures { IsReceived result publish.now (end_of key (sessions_of self.now.sessions.list)) }
-    {
-        match self.sessions.get(key) {
-            Some(session) => reception_at(&session.end, publish, window),
-            // A connected client has a session, so this is unreachable.
-            None => Reception::Handed,
-        }
+fn class_of<S: FilterStore>(
+    tables: &Tables<S>,
+    key: ClientKey,
+    publish: &Publish,
+    window: Option<u16>,
+) -> Reception
+    requires { CanReceive key window tables.now.sessions.list }
+    ensures { IsReceived result publish.now (end_of key (sessions_of tables.now.sessions.list)) }
+{
+    match tables.sessions.get(key) {
+        Some(session) => reception_at(&session.end, publish, window),
+        // A connected client has a session, so this is unreachable.
+        None => Reception::Handed,
     }
 }
 
@@ -80,6 +83,6 @@ impl<S: FilterStore> HubOver<S> {
         requires { is_some (up_on key self.now.connections) ≡ true }
         ensures { IsReceived result publish.now (end_of key self.now.sessions) }
     {
-        self.tables.reception(key, publish, self.config.window)
+        class_of(&self.tables, key, publish, self.config.window)
     }
 }

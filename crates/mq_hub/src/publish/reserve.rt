@@ -1,111 +1,115 @@
 //! Plans the delivery of a message and reserves the memory for it, before anything changes.
 
-ghost use Rattle.std.specs.Prelude.{◌≡◌, ◌+◌, ◌≤◌, ◌<◌, ℕ, length, true, IfOk, OnOk, Ok};
+ghost use Rattle.std.specs.Prelude.{◌≡◌, ◌+◌, ◌≤◌, ◌<◌, ℕ, length, true, IfOk, Ok};
 ghost use Rattle.mq_packet.specs.declared.message.Message.{Message};
 ghost use Rattle.mq_end.specs.Sizes.{publish_size};
 ghost use Rattle.mq_route.specs.declared.config.HubConfig.{HubConfig};
 ghost use Rattle.mq_route.specs.Hub.{HubState, copies_of};
 ghost use Rattle.mq_route.specs.Work.{have_room, deliver};
+ghost use Rattle.mq_tables.specs.Publishing.{AreStillReady};
+ghost use Rattle.mq_tables.specs.Retained.{IsKeptOf};
+ghost use Rattle.mq_tables.specs.Rules.{rules_of};
 ghost use Rattle.mq_hub.specs.Inside.Refinement.{Refines};
 ghost use Rattle.mq_hub.specs.Inside.Invariant.{HubInvariant};
-ghost use Rattle.mq_hub.specs.Inside.Placement.{placed_all, AreFor, AreStillReady, HasSessions, Settles};
-ghost use Rattle.mq_hub.specs.Inside.Retained.{IsKeptOf};
-ghost use Rattle.mq_hub.specs.Inside.Rules.{answer_for, rules_of};
+ghost use Rattle.mq_hub.specs.Inside.Placement.{placed_all, AreFor, HasSessions, Settles};
+ghost use Rattle.mq_hub.specs.Inside.QueuedAnswer.{answer_for};
 ghost use Rattle.mq_hub.specs.Inside.View.{hub_of};
 ghost use Rattle.mq_hub.specs.Inside.DeliveryPlan.{AreTablesAlike, IsPlanned, IsReserved};
 
 use crate::acts::ActLog;
 use crate::publish::delivery::DeliveryPlan;
 use crate::publish::enqueue::copies_of;
-use crate::publish::rules::{CopyRules, QueuedAnswer};
-use crate::retained::to_retain;
-use crate::tables::Tables;
+use crate::publish::queued_answer::QueuedAnswer;
 use mq_packet::Message;
 use mq_route::Act;
+use mq_tables::{CopyRules, Tables, to_retain};
 use mq_topic::FilterStore;
 use std::alloc::{AllocError, Global};
 
-impl<S: FilterStore> Tables<S> {
-    /// Plans the delivery of a message. The plan shares the message's bytes.
-    #[inline(always)]
-    pub(crate) fn plan_delivery(
-        &self,
-        alloc: Global,
-        message: &Message,
-    ) -> Result<DeliveryPlan, AllocError>
-        ensures kept { IfOk result (λ s. IsKeptOf message.now s.kept) }
-        ensures planned { IfOk result (λ s. IsPlanned s) }
-        ensures copies { IfOk result (λ s. (config : HubConfig) (clock next_key : ℕ)
-            → s.copies.items ≡ copies_of message.now (hub_of config clock next_key self.now)) }
-        ensures due { IfOk result (λ s. (config : HubConfig) (next_key : ℕ) → HubInvariant config next_key self.now
-            → publish_size message.now ≤ config.limits.most → AreFor self.now.sessions.list s.copies.items) }
-    {
-        let copies = copies_of(
-            alloc,
-            &self.store,
-            &self.connections,
-            &self.sessions,
-            message,
-        )?;
-        let kept = to_retain(message)?;
-        Ok(DeliveryPlan {
-            kept,
-            copies,
-            acts: Vec::new(alloc),
-        })
-    }
+/// Plans the delivery of a message. The plan shares the message's bytes.
+#[inline(always)]
+pub(crate) fn plan_delivery<S: FilterStore>(
+    tables: &Tables<S>,
+    alloc: Global,
+    message: &Message,
+) -> Result<DeliveryPlan, AllocError>
+    ensures kept { IfOk result (λ s. IsKeptOf message.now s.kept) }
+    ensures planned { IfOk result (λ s. IsPlanned s) }
+    ensures copies { IfOk result (λ s. (config : HubConfig) (clock next_key : ℕ)
+        → s.copies.items ≡ copies_of message.now (hub_of config clock next_key tables.now)) }
+    ensures due { IfOk result (λ s. (config : HubConfig) (next_key : ℕ) → HubInvariant config next_key tables.now
+        → publish_size message.now ≤ config.limits.most → AreFor tables.now.sessions.list s.copies.items) }
+{
+    let copies = copies_of(
+        alloc,
+        &tables.store,
+        &tables.connections,
+        &tables.sessions,
+        message,
+    )?;
+    let kept = to_retain(message)?;
+    Ok(DeliveryPlan {
+        kept,
+        copies,
+        acts: Vec::new(alloc),
+    })
+}
 
-    /// Makes room for a planned delivery: among the retained messages, in the sessions of the
-    /// subscribers (with `more` bytes besides), and for its acts. The answer is queued before the
-    /// copies. Copies that are missed are dropped from the plan. Returns `false` if a session has
-    /// no room for its copy (2.3.1) and the rules do not drop it. Nothing but the plan and reserved
-    /// capacity changes, also on `Err`.
-    #[inline(always)]
-    pub(crate) fn reserve_delivery(
-        &mut self,
-        alloc: Global,
-        rules: CopyRules,
-        answer: Option<QueuedAnswer>,
-        plan: &mut DeliveryPlan,
-        more: usize,
-        log: &mut ActLog,
-    ) -> Result<bool, AllocError>
-        requires planned { IsPlanned plan.old }
-        requires due { AreFor self.old.sessions.list plan.old.copies.items }
-        ensures enough { IfOk result (λ enough. (h : HubState) → HasSessions self.old.sessions.list h → rules_of h.config ≡ rules
-            → enough ≡ have_room plan.old.copies.items h) }
-        ensures settles { result ≡ Ok true → (h : HubState) → HasSessions self.old.sessions.list h → rules_of h.config ≡ rules
-            → Settles h.config (answer_for answer) self.old.sessions.list plan.old.copies.items plan.new.copies.items plan.new.acts.items }
-        ensures ready { result ≡ Ok true → IsReserved more plan.new self.new log.new.room }
-        ensures left { result ≡ Ok true → log.old.room + length plan.new.acts.items < log.new.room }
-        ensures kept { plan.new.kept ≡ plan.old.kept }
-        ensures alike { AreTablesAlike self.old self.new }
-        ensures still { AreStillReady self.old.sessions.list self.new.sessions.list }
-        ensures sessions { self.new.sessions.room ≡ self.old.sessions.room }
-        ensures acts { log.new.acts ≡ log.old.acts }
-        ensures room { log.old.room ≤ log.new.room }
-    {
-        self.retained.reserve(1)?;
-        log.reserve_more(plan.copies.len() + 1)?;
-        plan.make_room(alloc, &mut self.sessions, rules, answer, more)
-    }
+/// Makes room for a planned delivery: among the retained messages, in the sessions of the
+/// subscribers (with `more` bytes besides), and for its acts. The answer is queued before the
+/// copies. Copies that are missed are dropped from the plan. Returns `false` if a session has
+/// no room for its copy (2.3.1) and the rules do not drop it. Nothing but the plan and reserved
+/// capacity changes, also on `Err`.
+#[inline(always)]
+pub(crate) fn reserve_delivery<S: FilterStore>(
+    tables: &mut Tables<S>,
+    alloc: Global,
+    rules: CopyRules,
+    answer: Option<QueuedAnswer>,
+    plan: &mut DeliveryPlan,
+    more: usize,
+    log: &mut ActLog,
+) -> Result<bool, AllocError>
+    requires planned { IsPlanned plan.old }
+    requires due { AreFor tables.old.sessions.list plan.old.copies.items }
+    ensures enough { IfOk result (λ enough. (h : HubState) → HasSessions tables.old.sessions.list h → rules_of h.config ≡ rules
+        → enough ≡ have_room plan.old.copies.items h) }
+    ensures settles { result ≡ Ok true → (h : HubState) → HasSessions tables.old.sessions.list h → rules_of h.config ≡ rules
+        → Settles h.config (answer_for answer) tables.old.sessions.list plan.old.copies.items plan.new.copies.items plan.new.acts.items }
+    ensures ready { result ≡ Ok true → IsReserved more plan.new tables.new log.new.room }
+    ensures left { result ≡ Ok true → log.old.room + length plan.new.acts.items < log.new.room }
+    ensures kept { plan.new.kept ≡ plan.old.kept }
+    ensures alike { AreTablesAlike tables.old tables.new }
+    ensures still { AreStillReady tables.old.sessions.list tables.new.sessions.list }
+    ensures sessions { tables.new.sessions.room ≡ tables.old.sessions.room }
+    ensures acts { log.new.acts ≡ log.old.acts }
+    ensures room { log.old.room ≤ log.new.room }
+{
+    tables.retained.reserve(1)?;
+    log.reserve_more(plan.copies.len() + 1)?;
+    plan.make_room(alloc, &mut tables.sessions, rules, answer, more)
+}
 
-    /// Delivers a message for which room was reserved, after an act that reports it as taken or as
-    /// a will: it is retained (3.3.1.3) and its copies are placed (3.3.5).
-    #[inline(always)]
-    pub(crate) fn deliver(&mut self, act: Act, plan: DeliveryPlan, log: &mut ActLog)
-        requires ready { IsReserved 0 plan self.old log.old.room }
-        ensures goes { (m : Message) (config : HubConfig) (clock next_key : ℕ) → IsKeptOf m plan.kept → HubInvariant config next_key self.old
-            → Settles config (λ k. 0) self.old.sessions.list (copies_of m (hub_of config clock next_key self.old)) plan.copies.items plan.acts.items
-            → Refines (deliver act m) (hub_of config clock next_key self.old) log.old.acts
-            (hub_of config clock next_key self.new) log.new.acts }
-        ensures keeps { (m : Message) (config : HubConfig) (next_key : ℕ) → IsKeptOf m plan.kept → HubInvariant config next_key self.old
-            → publish_size m ≤ config.limits.most → HubInvariant config next_key self.new }
-        ensures list { self.new.sessions.list ≡ placed_all plan.copies.items self.old.sessions.list }
-        ensures sessions { self.new.sessions.room ≡ self.old.sessions.room }
-        ensures connections { self.new.connections ≡ self.old.connections }
-        ensures room { log.old.room ≤ log.new.room + length plan.acts.items + 1 }
-    {
-        plan.deliver_copies(act, &mut self.retained, &mut self.sessions, log);
-    }
+/// Delivers a message for which room was reserved, after an act that reports it as taken or as
+/// a will: it is retained (3.3.1.3) and its copies are placed (3.3.5).
+#[inline(always)]
+pub(crate) fn deliver<S: FilterStore>(
+    tables: &mut Tables<S>,
+    act: Act,
+    plan: DeliveryPlan,
+    log: &mut ActLog,
+)
+    requires ready { IsReserved 0 plan tables.old log.old.room }
+    ensures goes { (m : Message) (config : HubConfig) (clock next_key : ℕ) → IsKeptOf m plan.kept → HubInvariant config next_key tables.old
+        → Settles config (λ k. 0) tables.old.sessions.list (copies_of m (hub_of config clock next_key tables.old)) plan.copies.items plan.acts.items
+        → Refines (deliver act m) (hub_of config clock next_key tables.old) log.old.acts
+        (hub_of config clock next_key tables.new) log.new.acts }
+    ensures keeps { (m : Message) (config : HubConfig) (next_key : ℕ) → IsKeptOf m plan.kept → HubInvariant config next_key tables.old
+        → publish_size m ≤ config.limits.most → HubInvariant config next_key tables.new }
+    ensures list { tables.new.sessions.list ≡ placed_all plan.copies.items tables.old.sessions.list }
+    ensures sessions { tables.new.sessions.room ≡ tables.old.sessions.room }
+    ensures connections { tables.new.connections ≡ tables.old.connections }
+    ensures room { log.old.room ≤ log.new.room + length plan.acts.items + 1 }
+{
+    plan.deliver_copies(act, &mut tables.retained, &mut tables.sessions, log);
 }

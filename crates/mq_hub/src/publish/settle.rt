@@ -4,19 +4,20 @@ ghost use Rattle.std.specs.Prelude.{◌≡◌, ◌⊎◌, ◌+◌, ◌++◌, ◌
 ghost use Rattle.mq_packet.specs.declared.message.Message.{Message};
 ghost use Rattle.mq_route.specs.Hub.{HubState, for_key};
 ghost use Rattle.mq_route.specs.Work.{all_fit, drops_copies, have_room};
-ghost use Rattle.mq_hub.specs.Inside.Placement.{is_among, is_cut, placed_acts, AreApart, AreFor, AreReady, AreSameButRoom, AreStillReady, HasSessions, IsFor, IsReadyAt, Settles};
+ghost use Rattle.mq_tables.specs.Publishing.{AreSameButRoom, AreStillReady, IsReadyAt};
+ghost use Rattle.mq_tables.specs.Rules.{rules_of, space_of};
+ghost use Rattle.mq_tables.specs.Sessions.{session_at};
+ghost use Rattle.mq_hub.specs.Inside.Placement.{is_among, is_cut, placed_acts, AreApart, AreFor, AreReady, HasSessions, IsFor, Settles};
 ghost use Rattle.mq_hub.specs.Inside.Placement.{first_fitting, fitting_acts};
-ghost use Rattle.mq_hub.specs.Inside.Rules.{answer_for, rules_of, space_of};
+ghost use Rattle.mq_hub.specs.Inside.QueuedAnswer.{answer_for};
 ghost use Rattle.mq_hub.specs.Inside.Settlement.{IsSettled, IsSettledAs, IsSettledFor};
-ghost use Rattle.mq_hub.specs.Inside.Sessions.{session_at};
 
 use crate::publish::enqueue::{PlannedCopy, make_room_for};
-use crate::publish::rules::{CopyRules, QueuedAnswer, answer_for};
-use crate::publish::space::{Space, fits_left, has_identifier};
-use crate::sessions::table::Sessions;
+use crate::publish::queued_answer::{QueuedAnswer, answer_for};
 use mq_end::{PreparedMessage, publish_len};
 use mq_packet::Message;
 use mq_route::Act;
+use mq_tables::{CopyRules, Sessions, Space, fits_left, has_identifier};
 use mq_topic::ClientKey;
 use std::alloc::{AllocError, Global};
 use std::slice;

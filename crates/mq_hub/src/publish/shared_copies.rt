@@ -7,11 +7,9 @@ ghost use Rattle.mq_packet.specs.Publication.{fits_delivery};
 ghost use Rattle.mq_route.specs.Copies.{copy, copy_by};
 ghost use Rattle.mq_hub.specs.Inside.DeliveryPlan.{AreShared};
 
-use crate::connections::table::Connections;
-use crate::publish::recipients::{copy, copy_by};
-use crate::sessions::table::Sessions;
 use mq_end::PreparedMessage;
 use mq_packet::{Delivery, Message};
+use mq_tables::{Connections, Sessions, copy, copy_by};
 use mq_topic::{ClientKey, Qos};
 use std::alloc::{AllocError, Global};
 

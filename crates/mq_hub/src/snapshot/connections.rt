@@ -1,79 +1,17 @@
 //! Loading connections (4.2).
 
-ghost use Rattle.std.specs.Prelude.{◌≡◌, ◌<◌, [], None, OnOk, IfSome, IsSome, IsTrue, true, false};
-ghost use Rattle.mq_end.specs.End.{is_live};
-ghost use Rattle.mq_route.specs.Hub.{key_on, knows, stage_of, up_on, with_connection};
+ghost use Rattle.std.specs.Prelude.{◌≡◌, ◌<◌, [], None, OnOk, true};
+ghost use Rattle.mq_route.specs.Hub.{key_on, knows, stage_of, with_connection};
+ghost use Rattle.mq_tables.specs.Connections.{connected_for};
 ghost use Rattle.mq_hub.specs.Inside.Input.{with_held};
-ghost use Rattle.mq_hub.specs.Inside.Loading.{HasContinued, HaveNoOutput, connected_for};
-ghost use Rattle.mq_hub.specs.Inside.Sessions.{session_at};
+ghost use Rattle.mq_hub.specs.Inside.Loading.{HaveNoOutput};
 
 use crate::hub::HubOver;
-use crate::sessions::table::Sessions;
 use crate::snapshot::limits::is_will_within;
-use crate::tables::Tables;
 use mq_decode::{DecodeError, Decoder};
-use mq_end::ServerEnd;
 use mq_route::{Conn, ConnectionState, ConnectionTerms};
 use mq_snapshot::{SavedConnection, SnapshotFault, read_connection, read_eight};
 use mq_topic::{ClientKey, FilterStore};
-
-impl Sessions {
-    // The end of a session, which must have no connection, continues one. `blank` takes its place
-    // in the table meanwhile.
-    fn continue_connection(
-        &mut self,
-        key: ClientKey,
-        blank: ServerEnd,
-        terms: &ConnectionTerms,
-        last_activity: u64,
-    )
-        requires there { IsSome (session_at key self.old.list) }
-        requires down { IfSome (session_at key self.old.list) (λ t. is_live t.end.end.state ≡ false) }
-        ensures list { HasContinued terms.now last_activity key self.old.list self.new.list }
-        ensures room { self.new.room ≡ self.old.room }
-    {
-        let mut end = blank;
-        self.swap_end(key, &mut end);
-        end.continue_connection(terms.clean_session, terms.keep_alive, last_activity);
-        self.swap_end(key, &mut end);
-    }
-}
-
-impl<S: FilterStore> Tables<S> {
-    // Whether the session of a key exists and its client is not connected.
-    fn is_away(&self, key: ClientKey) -> bool
-        ensures there { IsTrue result → IsSome (session_at key self.now.sessions.list) }
-        ensures away { IsTrue result → up_on key self.now.connections.connections ≡ None }
-    {
-        self.sessions.get(key).is_some() && !self.is_up(key)
-    }
-
-    // Continues a connection for a session whose client is not connected.
-    fn continue_connection(
-        &mut self,
-        conn: Conn,
-        key: ClientKey,
-        blank: ServerEnd,
-        terms: ConnectionTerms,
-        last_activity: u64,
-    )
-        requires stage { stage_of conn self.old.connections.connections ≡ ConnectionState.AwaitingConnect }
-        requires client { up_on key self.old.connections.connections ≡ None }
-        requires room { 0 < self.old.connections.up_room }
-        requires there { IsSome (session_at key self.old.sessions.list) }
-        requires down { IfSome (session_at key self.old.sessions.list) (λ t. is_live t.end.end.state ≡ false) }
-        ensures list { HasContinued terms last_activity key self.old.sessions.list self.new.sessions.list }
-        ensures connections { self.new.connections.connections
-            ≡ with_connection (connected_for key terms last_activity) conn self.old.connections.connections }
-        ensures limits { self.new.connections.limits ≡ self.old.connections.limits }
-        ensures rest { self.new ≡ record self.old { sessions = self.new.sessions; connections = self.new.connections } }
-    {
-        self.sessions
-            .continue_connection(key, blank, &terms, last_activity);
-        self.connections
-            .connect_end(conn, key, terms, last_activity);
-    }
-}
 
 impl<S: FilterStore> HubOver<S> {
     // Connects a connection that was opened, for the session of a key. On `Err` the broker is

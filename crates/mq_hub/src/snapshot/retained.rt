@@ -1,38 +1,12 @@
 //! Loading subscriptions and retained messages (3.3.1.3, 3.8.4).
 
-ghost use Rattle.std.specs.Prelude.{◌≡◌, OnOk, OnErr};
-ghost use Rattle.mq_topic.specs.Rows.{with_row};
-ghost use Rattle.mq_route.specs.Copies.{kept};
+ghost use Rattle.std.specs.Prelude.{◌≡◌};
 
 use crate::hub::HubOver;
 use crate::snapshot::limits::is_within;
-use crate::tables::Tables;
 use mq_packet::Message;
 use mq_snapshot::{SnapshotFault, read_eight, read_message};
-use mq_topic::{ClientKey, FilterStore, Qos, StoreRow, TopicFilter};
-use std::alloc::AllocError;
-
-impl<S: FilterStore> Tables<S> {
-    fn set_row(&mut self, key: ClientKey, filter: TopicFilter, qos: Qos) -> Result<(), AllocError>
-        ensures ok { OnOk result (self.new.rows ≡ with_row key filter qos self.old.rows) }
-        ensures err { OnErr result (self.new.rows ≡ self.old.rows) }
-        ensures rest { self.new ≡ record self.old { rows = self.new.rows } }
-    {
-        self.store.set(key, filter, qos)
-    }
-
-    // Retains a message if RETAIN is set. On `Err` only reserved capacity may have changed.
-    fn retain(&mut self, message: Message) -> Result<(), AllocError>
-        ensures ok { OnOk result (self.new.retained.messages ≡ kept message self.old.retained.messages) }
-        ensures err { OnErr result (self.new.retained.messages ≡ self.old.retained.messages) }
-        ensures rest { self.new ≡ record self.old { retained = self.new.retained } }
-    {
-        let name = message.topic.clone()?;
-        self.retained.reserve(1)?;
-        self.retained.keep(name, message);
-        Ok(())
-    }
-}
+use mq_topic::{FilterStore, StoreRow};
 
 impl<S: FilterStore> HubOver<S> {
     // Sets a subscription. Its client must have a session.

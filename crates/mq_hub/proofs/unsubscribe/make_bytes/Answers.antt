@@ -1,5 +1,5 @@
 use Rattle.std.proofs.Common.{[]}
-use Rattle.mq_hub.proofs.SessionRoom.{ready_now, ready_same}
+use Rattle.mq_tables.proofs.SessionRoom.{ready_now, ready_same}
 use Rattle.mq_hub.proofs.unsubscribe.make_bytes.Goals as goal
 
 pub returns-in-Ok-clause-ok : goal.returns-in-Ok-clause-ok

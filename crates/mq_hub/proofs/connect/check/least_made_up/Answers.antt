@@ -1,7 +1,7 @@
 use Rattle.std.proofs.Common.{◌∙◌, ℕ, List, sym, ap, arith}
 use Rattle.std.specs.Option.{is_some}
 use Rattle.mq_route.specs.Hub.{key_of}
-use Rattle.mq_hub.specs.Inside.Sessions.{sessions_of}
+use Rattle.mq_tables.specs.Sessions.{sessions_of}
 use Rattle.mq_hub.proofs.Checks.{in_use}
 use Rattle.mq_hub.proofs.connect.check.least_made_up.Goals as goal
 

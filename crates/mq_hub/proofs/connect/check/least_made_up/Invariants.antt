@@ -1,6 +1,6 @@
 use Rattle.std.proofs.Common.{◌≡◌, ◌-◌, ◌≤◌, length}
 use Rattle.mq_route.specs.Welcome.{made_up_from}
-use Rattle.mq_hub.specs.Inside.Sessions.{sessions_of}
+use Rattle.mq_tables.specs.Sessions.{sessions_of}
 use Rattle.mq_hub.proofs.connect.check.least_made_up.Given as goal
 
 abbrev pub invariant-loop-number : goal.invariant-loop-number

@@ -2,9 +2,9 @@ use Rattle.std.proofs.Common.{◌≡◌, ◌∙◌, true, List, Some, sym, subst
 use Rattle.mq_route.specs.declared.act.Act.{Act}
 use Rattle.mq_route.specs.Arrives.{accept_connect}
 use Rattle.mq_route.specs.Hub.{key_of}
+use Rattle.mq_tables.proofs.FirstPackets.{ok_by}
 use Rattle.mq_hub.specs.Inside.Refinement.{Refines}
 use Rattle.mq_hub.proofs.AcceptConnect.{goes_admitted}
-use Rattle.mq_hub.proofs.FirstPackets.{ok_by}
 use Rattle.mq_hub.proofs.hub.HubOver.accept_connect.Goals as goal
 
 pub returns-then-is_up-clause-goes : goal.returns-then-is_up-clause-goes

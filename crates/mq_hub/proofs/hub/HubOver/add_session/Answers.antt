@@ -1,9 +1,9 @@
 use Rattle.std.proofs.Common.{◌≡◌, ◌∙◌, ◌<◌, ℕ, true, [], refl, sym, ap, subst}
 use Rattle.mq_end.specs.End.{resumed}
 use Rattle.mq_route.specs.Hub.{HubState}
-use Rattle.mq_hub.specs.declared.sessions.session.BrokerSession.{BrokerSession}
-use Rattle.mq_hub.specs.Inside.Sessions.{AreBelow, sessions_of}
-use Rattle.mq_hub.specs.Inside.View.{HubTables}
+use Rattle.mq_tables.specs.declared.sessions.session.BrokerSession.{BrokerSession}
+use Rattle.mq_tables.specs.Sessions.{AreBelow, sessions_of}
+use Rattle.mq_tables.specs.Tables.{HubTables}
 use Rattle.mq_hub.proofs.LoadedParts.{fitting_alone, hub_added, kept_added, no_connections}
 use Rattle.mq_hub.proofs.hub.HubOver.add_session.Goals as goal
 

@@ -1,8 +1,8 @@
 use Rattle.std.proofs.Common.{◌≡◌, ◌∙◌, ℕ, List, [], ◌∷◌, map, refl, ap, subst}
 use Rattle.std.specs.Result.{IfOk}
 use Rattle.mq_route.specs.Hub.{HubSession, HubState}
-use Rattle.mq_hub.specs.declared.sessions.session.BrokerSession.{BrokerSession}
-use Rattle.mq_hub.specs.Inside.Sessions.{sessions_of}
+use Rattle.mq_tables.specs.declared.sessions.session.BrokerSession.{BrokerSession}
+use Rattle.mq_tables.specs.Sessions.{sessions_of}
 use Rattle.mq_hub.proofs.hub.HubOver.clients.Goals as goal
 
 clients_seen : (ts : List BrokerSession) → map (λ (t : BrokerSession). t.client) ts ≡ map (λ (s : HubSession). s.client) (sessions_of ts)

@@ -1,8 +1,9 @@
 use Rattle.std.proofs.Common.{◌∙◌, sym, ap, subst}
 use Rattle.mq_route.specs.Hub.{HubState, key_on, stage_of}
 use Rattle.mq_route.specs.Work.{close}
+use Rattle.mq_tables.specs.Tables.{HubTables}
 use Rattle.mq_hub.specs.Inside.Refinement.{Refines}
-use Rattle.mq_hub.specs.Inside.View.{HubTables, hub_of}
+use Rattle.mq_hub.specs.Inside.View.{hub_of}
 use Rattle.mq_hub.proofs.ConnectionChange.{stage_seen}
 use Rattle.mq_hub.proofs.DisconnectTimes.{closed_at}
 use Rattle.mq_hub.proofs.hub.HubOver.close.Goals as goal
@@ -28,8 +29,8 @@ returns-in-Some-clause-goes g c =
     let h = c.self.inside in
     let goes = c.close_up.ensures.proceeds.goes h.config h.clock h.next_key c.self.invariant (sym c.rules_of-rules.ensures) in (
       goes.0,
-      subst (λ (s : HubState). Refines (close c.args.conn c.args.why goes.0) s c.args.log.now.acts (hub_of h.config h.clock h.next_key c.close_up.new.self)
+      subst (λ (s : HubState). Refines (close c.args.conn c.args.why goes.0) s c.args.log.now.acts (hub_of h.config h.clock h.next_key c.close_up.new.tables)
           c.close_up.new.log.acts) c.self.view_is
-          (closed_at (λ w. w) c.args.conn c.args.why goes.0 (hub_of h.config h.clock h.next_key h.tables) (hub_of h.config h.clock h.next_key c.close_up.new.self) c.args.log.now.acts
+          (closed_at (λ w. w) c.args.conn c.args.why goes.0 (hub_of h.config h.clock h.next_key h.tables) (hub_of h.config h.clock h.next_key c.close_up.new.tables) c.args.log.now.acts
           c.close_up.new.log.acts goes.1),
     )

@@ -1,8 +1,10 @@
 use Rattle.std.proofs.Common.{◌≡◌, ◌∙◌, None, sym, ap}
 use Rattle.mq_route.specs.Hub.{HubState, key_on, stage_of, with_connection}
-use Rattle.mq_hub.specs.Inside.View.{HubTables, hub_of}
+use Rattle.mq_tables.specs.Tables.{HubTables}
+use Rattle.mq_tables.proofs.ClosedConnection.{closed}
+use Rattle.mq_hub.specs.Inside.View.{hub_of}
 use Rattle.mq_hub.proofs.ConnectionChange.{stage_seen}
-use Rattle.mq_hub.proofs.ClosedConnection.{closed, goes_closed, hub_closed, kept_closed}
+use Rattle.mq_hub.proofs.ClosedConnection.{goes_closed, hub_closed, kept_closed}
 use Rattle.mq_hub.proofs.hub.HubOver.close_idle.Goals as goal
 
 pub invariant_of-self : goal.invariant_of-self

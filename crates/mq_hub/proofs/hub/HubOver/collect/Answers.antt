@@ -1,9 +1,9 @@
 use Rattle.std.proofs.Common.{◌∙◌, sym, ap}
 use Rattle.mq_route.specs.Hub.{HubState, knows, waiting_on}
 use Rattle.mq_route.specs.Step.{collected}
+use Rattle.mq_tables.proofs.FirstPackets.{err_by, if_ok_by, ok_by}
 use Rattle.mq_hub.proofs.OutputView.{own_bytes_as, own_err, own_keeps, own_taken, up_bytes, up_err, up_keeps, up_taken}
 use Rattle.mq_hub.proofs.TakenOutput.{backed_at}
-use Rattle.mq_hub.proofs.FirstPackets.{err_by, if_ok_by, ok_by}
 use Rattle.mq_hub.proofs.TableView.{knows_seen}
 use Rattle.mq_hub.proofs.hub.HubOver.collect.Goals as goal
 

@@ -3,8 +3,8 @@ use Rattle.std.specs.List.{list_any}
 use Rattle.mq_route.specs.declared.conn.Conn.{Conn}
 use Rattle.mq_route.specs.Hub.{HubConnection, HubState}
 use Rattle.mq_route.specs.Routed.{same_conn}
-use Rattle.mq_hub.specs.Inside.View.{HubTables}
-use Rattle.mq_hub.proofs.FirstPackets.{if_ok_by}
+use Rattle.mq_tables.specs.Tables.{HubTables}
+use Rattle.mq_tables.proofs.FirstPackets.{if_ok_by}
 use Rattle.mq_hub.proofs.SavedConnections.{known_names, names_seen}
 use Rattle.mq_hub.proofs.hub.HubOver.connections.Goals as goal
 

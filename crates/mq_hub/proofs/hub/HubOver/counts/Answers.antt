@@ -1,7 +1,7 @@
 use Rattle.std.proofs.Common.{◌∙◌, ◌-◌, ◌^◌, ℕ, ap, min}
 use Rattle.mq_route.specs.Hub.{HubState}
+use Rattle.mq_tables.specs.Numbers.{all_stored}
 use Rattle.mq_hub.specs.Gauges.{stored_in}
-use Rattle.mq_hub.specs.Inside.Numbers.{all_stored}
 use Rattle.mq_hub.proofs.Gauges.{stored_seen}
 use Rattle.mq_hub.proofs.hub.HubOver.counts.Goals as goal
 

@@ -1,9 +1,9 @@
 use Rattle.std.proofs.Common.{◌∙◌, List, ℕ, sym, ap, subst}
 use Rattle.mq_route.specs.Hub.{HubState}
 use Rattle.mq_route.specs.Step.{expired_keys}
+use Rattle.mq_tables.proofs.FirstPackets.{if_ok_by}
 use Rattle.mq_hub.specs.Inside.Expiry.{AreAway}
 use Rattle.mq_hub.proofs.ExpiredSessions.{away_seen, gone_away, keys_seen}
-use Rattle.mq_hub.proofs.FirstPackets.{if_ok_by}
 use Rattle.mq_hub.proofs.hub.HubOver.expired.Goals as goal
 
 pub returns-clause-keys : goal.returns-clause-keys

@@ -1,6 +1,6 @@
 use Rattle.std.proofs.Common.{◌≡◌, ◌∙◌, None, sym, ap}
 use Rattle.mq_route.specs.Hub.{HubState, key_on, stage_of, without_connection}
-use Rattle.mq_hub.specs.Inside.View.{HubTables}
+use Rattle.mq_tables.specs.Tables.{HubTables}
 use Rattle.mq_hub.proofs.ConnectionChange.{stage_seen}
 use Rattle.mq_hub.proofs.RemovedConnection.{hub_forgotten, kept_forgotten}
 use Rattle.mq_hub.proofs.hub.HubOver.forget.Goals as goal

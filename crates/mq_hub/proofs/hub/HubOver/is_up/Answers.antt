@@ -1,7 +1,7 @@
 use Rattle.std.proofs.Common.{◌∙◌, sym, ap}
 use Rattle.std.specs.Option.{is_some}
 use Rattle.mq_route.specs.Hub.{HubState, up_on}
-use Rattle.mq_hub.specs.Inside.View.{HubTables}
+use Rattle.mq_tables.specs.Tables.{HubTables}
 use Rattle.mq_hub.proofs.ConnectionChange.{up_seen}
 use Rattle.mq_hub.proofs.hub.HubOver.is_up.Goals as goal
 

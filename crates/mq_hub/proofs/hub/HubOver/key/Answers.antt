@@ -1,7 +1,7 @@
 use Rattle.std.proofs.Common.{◌≡◌, ◌∙◌, true, ℕ, sym, ap}
 use Rattle.mq_end.specs.End.{is_up}
 use Rattle.mq_route.specs.Hub.{HubState, end_of, key_on, stage_of}
-use Rattle.mq_hub.specs.Inside.View.{HubTables}
+use Rattle.mq_tables.specs.Tables.{HubTables}
 use Rattle.mq_hub.proofs.MalformedBytes.{end_up}
 use Rattle.mq_hub.proofs.ConnectionChange.{stage_seen}
 use Rattle.mq_hub.proofs.LastActivity.{if_some}

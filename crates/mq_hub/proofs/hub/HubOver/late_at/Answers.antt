@@ -3,8 +3,8 @@ use Rattle.std.specs.List.{slice_get}
 use Rattle.mq_route.specs.declared.close.HubClose.{HubClose}
 use Rattle.mq_route.specs.declared.conn.Conn.{Conn}
 use Rattle.mq_route.specs.Hub.{HubState, HubConnection, knows}
-use Rattle.mq_hub.specs.Inside.Connections.{connection_of}
-use Rattle.mq_hub.specs.Inside.View.{HubTables}
+use Rattle.mq_tables.specs.Connections.{connection_of}
+use Rattle.mq_tables.specs.Tables.{HubTables}
 use Rattle.mq_hub.proofs.LastActivity.{if_some}
 use Rattle.mq_hub.proofs.LateWalk.{apart_seen, late_name}
 use Rattle.mq_hub.proofs.hub.HubOver.late_at.Goals as goal

@@ -1,12 +1,13 @@
 use Rattle.std.proofs.Common.{◌≡◌, ◌∙◌, ℕ, Option, refl, sym, ap, subst}
 use Rattle.mq_route.specs.declared.config.HubConfig.{HubConfig}
 use Rattle.mq_route.specs.Hub.{HubState}
-use Rattle.mq_hub.specs.declared.connections.table.ConnectionLimits.{ConnectionLimits}
-use Rattle.mq_hub.specs.Inside.Connections.{ConnectionList}
+use Rattle.mq_tables.specs.declared.connections.table.ConnectionLimits.{ConnectionLimits}
+use Rattle.mq_tables.specs.Connections.{ConnectionList}
+use Rattle.mq_tables.specs.Late.{HasLate}
+use Rattle.mq_tables.specs.Tables.{HubTables}
+use Rattle.mq_tables.proofs.FirstPackets.{if_ok_by}
 use Rattle.mq_hub.specs.Inside.Invariant.{HubInvariant}
-use Rattle.mq_hub.specs.Inside.Tick.{HasLate}
-use Rattle.mq_hub.specs.Inside.View.{HubTables, hub_of}
-use Rattle.mq_hub.proofs.FirstPackets.{if_ok_by}
+use Rattle.mq_hub.specs.Inside.View.{hub_of}
 use Rattle.mq_hub.proofs.InvariantChanges.{kept_by}
 use Rattle.mq_hub.proofs.LateWalk.{late_seen}
 use Rattle.mq_hub.proofs.TableView.{hub_same}

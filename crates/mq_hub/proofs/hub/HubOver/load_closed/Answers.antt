@@ -1,8 +1,9 @@
 use Rattle.std.proofs.Common.{◌≡◌, ◌∙◌, None, sym, ap}
 use Rattle.mq_route.specs.Hub.{HubState, key_on, stage_of, with_connection}
-use Rattle.mq_hub.specs.Inside.View.{HubTables}
+use Rattle.mq_tables.specs.Tables.{HubTables}
+use Rattle.mq_tables.proofs.ClosedConnection.{closed}
 use Rattle.mq_hub.proofs.ConnectionChange.{stage_seen}
-use Rattle.mq_hub.proofs.ClosedConnection.{closed, hub_closed, kept_closed}
+use Rattle.mq_hub.proofs.ClosedConnection.{hub_closed, kept_closed}
 use Rattle.mq_hub.proofs.hub.HubOver.load_closed.Goals as goal
 
 pub invariant_of-self : goal.invariant_of-self

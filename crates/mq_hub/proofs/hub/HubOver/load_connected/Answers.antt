@@ -3,10 +3,10 @@ use Rattle.std.specs.Option.{IfSome}
 use Rattle.mq_end.specs.End.{is_live}
 use Rattle.mq_route.specs.declared.connection_state.ConnectionState.TheVariants.{AwaitingConnect}
 use Rattle.mq_route.specs.Hub.{HubConnection, HubState, stage_of, up_on, with_connection}
-use Rattle.mq_hub.specs.declared.sessions.session.BrokerSession.{BrokerSession}
-use Rattle.mq_hub.specs.Inside.Loading.{connected_for}
-use Rattle.mq_hub.specs.Inside.Sessions.{session_at, sessions_of}
-use Rattle.mq_hub.specs.Inside.View.{HubTables}
+use Rattle.mq_tables.specs.declared.sessions.session.BrokerSession.{BrokerSession}
+use Rattle.mq_tables.specs.Connections.{connected_for}
+use Rattle.mq_tables.specs.Sessions.{session_at, sessions_of}
+use Rattle.mq_tables.specs.Tables.{HubTables}
 use Rattle.mq_hub.proofs.ConnectionChange.{stage_seen}
 use Rattle.mq_hub.proofs.InvariantChanges.{kept_by}
 use Rattle.mq_hub.proofs.LoadedConnections.{hub_continued, is_down, kept_continued}

@@ -1,7 +1,7 @@
 use Rattle.std.proofs.Common.{◌≡◌, ◌∙◌, false, sym, ap}
 use Rattle.mq_route.specs.Hub.{HubState, knows, stage_of}
+use Rattle.mq_tables.proofs.ConnectionTable.{itself}
 use Rattle.mq_hub.specs.Inside.Loading.{opened_at}
-use Rattle.mq_hub.proofs.ConnectionTable.{itself}
 use Rattle.mq_hub.proofs.LoadedConnections.{opened_stage}
 use Rattle.mq_hub.proofs.hub.HubOver.load_connection.Goals as goal
 

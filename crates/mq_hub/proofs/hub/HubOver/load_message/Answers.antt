@@ -1,5 +1,5 @@
 use Rattle.std.proofs.Common.{refl, ap}
-use Rattle.mq_hub.specs.Inside.View.{HubTables}
+use Rattle.mq_tables.specs.Tables.{HubTables}
 use Rattle.mq_hub.proofs.LoadedParts.{kept_retained}
 use Rattle.mq_hub.proofs.hub.HubOver.load_message.Goals as goal
 

@@ -1,10 +1,10 @@
 use Rattle.std.proofs.Common.{◌∙◌, sym, ap}
 use Rattle.std.specs.Option.{is_some}
+use Rattle.mq_tables.specs.Sessions.{session_at}
+use Rattle.mq_tables.specs.Tables.{HubTables}
+use Rattle.mq_tables.proofs.SessionLemmas.{copied_there}
 use Rattle.mq_hub.specs.Inside.Invariant.{HasSession}
-use Rattle.mq_hub.specs.Inside.Sessions.{session_at}
-use Rattle.mq_hub.specs.Inside.View.{HubTables}
 use Rattle.mq_hub.proofs.LoadedParts.{kept_set}
-use Rattle.mq_hub.proofs.SessionLemmas.{copied_there}
 use Rattle.mq_hub.proofs.hub.HubOver.load_row.Goals as goal
 
 pub invariant_of-self-2 : goal.invariant_of-self-2

@@ -1,9 +1,9 @@
 use Rattle.std.proofs.Common.{◌∙◌, refl, sym, ap, subst}
 use Rattle.mq_route.specs.Hub.{HubState, knows, with_connection}
-use Rattle.mq_hub.specs.Inside.Input.{holds}
-use Rattle.mq_hub.specs.Inside.Loading.{connected_for, HaveNoOutput}
-use Rattle.mq_hub.proofs.ClosedConnection.{closed}
-use Rattle.mq_hub.proofs.FirstPackets.{ok_by}
+use Rattle.mq_tables.specs.Connections.{holds, connected_for}
+use Rattle.mq_tables.proofs.ClosedConnection.{closed}
+use Rattle.mq_tables.proofs.FirstPackets.{ok_by}
+use Rattle.mq_hub.specs.Inside.Loading.{HaveNoOutput}
 use Rattle.mq_hub.proofs.LoadedConnections.{known_changed, silent_changed}
 use Rattle.mq_hub.proofs.hub.HubOver.load_state.Goals as goal
 

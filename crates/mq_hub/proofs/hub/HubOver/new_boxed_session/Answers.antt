@@ -1,7 +1,7 @@
 use Rattle.std.proofs.Common.{◌∙◌, ap}
 use Rattle.mq_end.specs.State.{EndState}
 use Rattle.mq_route.specs.Hub.{HubState}
-use Rattle.mq_hub.specs.Inside.ConnectRoom.{connected_end, roomed}
+use Rattle.mq_tables.specs.Connecting.{connected_end, roomed}
 use Rattle.mq_hub.proofs.SubscribePackets.{if_ok}
 use Rattle.mq_hub.proofs.hub.HubOver.new_boxed_session.Goals as goal
 

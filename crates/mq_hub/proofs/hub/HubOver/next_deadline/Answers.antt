@@ -1,11 +1,12 @@
 use Rattle.std.proofs.Common.{◌≡◌, ◌∙◌, ◌^◌, [], ℕ, Option, ap, subst, arith}
 use Rattle.mq_route.specs.Hub.{HubState}
 use Rattle.mq_route.specs.Step.{expired_keys}
-use Rattle.mq_hub.specs.declared.connections.table.ConnectionLimits.{ConnectionLimits}
-use Rattle.mq_hub.specs.Inside.Connections.{ConnectionList}
-use Rattle.mq_hub.specs.Inside.Expiry.{AreKept}
-use Rattle.mq_hub.specs.Inside.Tick.{AreInTime}
-use Rattle.mq_hub.proofs.ExpiredSessions.{keys_seen, none_gone}
+use Rattle.mq_tables.specs.declared.connections.table.ConnectionLimits.{ConnectionLimits}
+use Rattle.mq_tables.specs.Connections.{ConnectionList}
+use Rattle.mq_tables.specs.Expiry.{AreKept}
+use Rattle.mq_tables.specs.Late.{AreInTime}
+use Rattle.mq_tables.proofs.ExpiredSessions.{none_gone}
+use Rattle.mq_hub.proofs.ExpiredSessions.{keys_seen}
 use Rattle.mq_hub.proofs.LateWalk.{deadline_idle, deadline_never, in_time_seen}
 use Rattle.mq_hub.proofs.hub.HubOver.next_deadline.Goals as goal
 

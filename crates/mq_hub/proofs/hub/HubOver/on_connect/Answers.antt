@@ -2,8 +2,8 @@ use Rattle.std.proofs.Common.{◌≡◌, ◌∙◌, ℕ, true, true≢false, Lis
 use Rattle.mq_packet.specs.declared.connect.Connect.{Connect}
 use Rattle.mq_route.specs.Hub.{is_open, key_of}
 use Rattle.mq_route.specs.Welcome.{client_of, needs_new, refusal}
+use Rattle.mq_tables.proofs.FirstPackets.{ok_by}
 use Rattle.mq_hub.proofs.AcceptConnect.{goes_turned, goes_welcomed, has_key, named, refused_is_shut}
-use Rattle.mq_hub.proofs.FirstPackets.{ok_by}
 use Rattle.mq_hub.proofs.hub.HubOver.on_connect.Goals as goal
 
 pub accept_connect-requires-clause-named : goal.accept_connect-requires-clause-named

@@ -2,9 +2,9 @@ use Rattle.std.proofs.Common.{Err, subst}
 use Rattle.mq_decode.specs.declared.fault.DecodeError.{DecodeError}
 use Rattle.mq_decode.specs.Grammar.{IsFront}
 use Rattle.mq_route.specs.Work.{close}
+use Rattle.mq_tables.proofs.PendingBytes.{faulty_some}
 use Rattle.mq_hub.proofs.LastActivity.{goes_from, memory}
 use Rattle.mq_hub.proofs.InputBytes.{breaks_by, starves_by}
-use Rattle.mq_hub.proofs.PendingBytes.{faulty_some}
 use Rattle.mq_hub.proofs.hub.HubOver.on_decode_error.Goals as goal
 
 pub returns-in-Ok : goal.returns-in-Ok

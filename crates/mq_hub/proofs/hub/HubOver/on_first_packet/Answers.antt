@@ -3,10 +3,10 @@ use Rattle.mq_packet.specs.declared.packet.Packet.{Packet}
 use Rattle.mq_packet.specs.Encoding.{fields}
 use Rattle.mq_route.specs.Arrives.{on_first_packet}
 use Rattle.mq_route.specs.Hub.{is_open}
+use Rattle.mq_tables.proofs.FirstPackets.{ok_by}
 use Rattle.mq_hub.specs.Inside.Refinement.{Refines}
 use Rattle.mq_hub.specs.Inside.ConnectChecks.{is_connect}
 use Rattle.mq_hub.proofs.AcceptConnect.{goes_connect, not_connect, will_within, wrong_is_shut}
-use Rattle.mq_hub.proofs.FirstPackets.{ok_by}
 use Rattle.mq_hub.proofs.hub.HubOver.on_first_packet.Goals as goal
 
 pub on_connect-requires-clause-will : goal.on_connect-requires-clause-will

@@ -1,5 +1,6 @@
 use Rattle.std.proofs.Common.{◌∙◌, sym}
-use Rattle.mq_hub.proofs.FirstPackets.{goes_broken, goes_broken_level, ok_by}
+use Rattle.mq_tables.proofs.FirstPackets.{ok_by}
+use Rattle.mq_hub.proofs.FirstPackets.{goes_broken, goes_broken_level}
 use Rattle.mq_hub.proofs.hub.HubOver.on_malformed_first.Goals as goal
 
 pub returns-then-is_level-clause-goes : goal.returns-then-is_level-clause-goes

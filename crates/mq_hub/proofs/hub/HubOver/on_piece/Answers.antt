@@ -3,7 +3,7 @@ use Rattle.mq_decode.specs.Grammar.{Pending}
 use Rattle.mq_decode.specs.Limits.{Bounds}
 use Rattle.mq_route.specs.declared.config.HubConfig.{HubConfig}
 use Rattle.mq_route.specs.Hub.{HubState, knows}
-use Rattle.mq_hub.specs.Inside.Connections.{IsDecoding}
+use Rattle.mq_tables.specs.Connections.{IsDecoding}
 use Rattle.mq_hub.specs.Inside.Input.{RefinesBytes}
 use Rattle.mq_hub.proofs.InputBytes.{open_known}
 use Rattle.mq_hub.proofs.ByteWalk.{closed_past, ends_past, leads_first, leads_past, some_past, stops_past, waits_past}

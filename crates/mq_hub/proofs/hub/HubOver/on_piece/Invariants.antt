@@ -1,6 +1,6 @@
 use Rattle.std.proofs.Common.{◌≡◌, ◌-◌, ◌≤◌, ◌++◌, true, length, take}
 use Rattle.mq_route.specs.Hub.{is_open, stage_of}
-use Rattle.mq_hub.specs.Inside.Connections.{IsDecoding}
+use Rattle.mq_tables.specs.Connections.{IsDecoding}
 use Rattle.mq_hub.proofs.ByteWalk.{LeadsOn}
 use Rattle.mq_hub.proofs.hub.HubOver.on_piece.Given as goal
 

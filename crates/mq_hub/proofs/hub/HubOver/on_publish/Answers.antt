@@ -8,15 +8,16 @@ use Rattle.mq_route.specs.declared.close.HubClose.TheVariants.{TargetFull}
 use Rattle.mq_route.specs.Arrives.{on_connected_packet}
 use Rattle.mq_route.specs.Hub.{HubState, copies_of, end_of}
 use Rattle.mq_route.specs.Work.{close, have_room, deliver}
+use Rattle.mq_tables.specs.Retained.{IsKeptOf, RetainedTable}
+use Rattle.mq_tables.specs.Tables.{HubTables}
+use Rattle.mq_tables.proofs.FirstPackets.{err_any}
 use Rattle.mq_hub.specs.declared.publish.reception.Reception.TheVariants.{Handed}
-use Rattle.mq_hub.specs.declared.publish.rules.QueuedAnswer.{QueuedAnswer}
+use Rattle.mq_hub.specs.declared.publish.queued_answer.QueuedAnswer.{QueuedAnswer}
 use Rattle.mq_hub.specs.Inside.Refinement.{Refines}
 use Rattle.mq_hub.specs.Inside.Reception.{IsReceived}
 use Rattle.mq_hub.specs.Inside.Placement.{HaveQueued, Settles}
-use Rattle.mq_hub.specs.Inside.Retained.{IsKeptOf, RetainedTable}
-use Rattle.mq_hub.specs.Inside.Rules.{answer_for, publish_answer}
-use Rattle.mq_hub.specs.Inside.View.{HubTables, hub_of}
-use Rattle.mq_hub.proofs.FirstPackets.{err_any}
+use Rattle.mq_hub.specs.Inside.QueuedAnswer.{answer_for, publish_answer}
+use Rattle.mq_hub.specs.Inside.View.{hub_of}
 use Rattle.mq_hub.proofs.GrantedRows.{on_seen}
 use Rattle.mq_hub.proofs.NewPublish.{can_hand, copies_handed, handed_as, handed_goes, kept_handed, kept_unhanded, publish_of, same_publish, same_unhanded, stays_ready, taken_as, unhanded_goes}
 use Rattle.mq_hub.proofs.MissedCopies.{room_same_books, room_same_output, settles_alike}
@@ -34,13 +35,13 @@ pub take_publish-requires-clause-can : goal.take_publish-requires-clause-can
 take_publish-requires-clause-can g c =
     let h = c.self.inside in
     let on = on_seen h.config h.clock h.next_key h.tables c.args.self.now c.args.key c.self.view_is c.requires.up in
-    can_hand h.config h.clock h.next_key c.args.key h.tables c.reserve_delivery.new.self c.self.invariant c.reserve_delivery.ensures.alike on.conn on.is (publish_of c.into_message-message.result c.delivery-delivery.result)
+    can_hand h.config h.clock h.next_key c.args.key h.tables c.reserve_delivery.new.tables c.self.invariant c.reserve_delivery.ensures.alike on.conn on.is (publish_of c.into_message-message.result c.delivery-delivery.result)
 
 pub take_publish-requires-clause-stays : goal.take_publish-requires-clause-stays
 take_publish-requires-clause-stays g c =
     let h = c.self.inside in
     let on = on_seen h.config h.clock h.next_key h.tables c.args.self.now c.args.key c.self.view_is c.requires.up in
-    stays_ready h.config h.clock h.next_key c.args.key h.tables c.reserve_delivery.new.self c.self.invariant c.reserve_delivery.ensures.alike on.conn on.is (publish_of c.into_message-message.result c.delivery-delivery.result)
+    stays_ready h.config h.clock h.next_key c.args.key h.tables c.reserve_delivery.new.tables c.self.invariant c.reserve_delivery.ensures.alike on.conn on.is (publish_of c.into_message-message.result c.delivery-delivery.result)
     (handed_as c.args.publish (publish_of c.into_message-message.result c.delivery-delivery.result) c.args.self.now (hub_of h.config h.clock h.next_key h.tables) c.args.key (same_publish c.args.publish c.into_message-message.result c.delivery-delivery.result c.into_message-message.ensures c.delivery-delivery.ensures.value) c.self.view_is c.requires.handed)
 
 pub deliver-requires : goal.deliver-requires
@@ -60,22 +61,22 @@ deliver-requires g c =
 pub invariant_of-self : goal.invariant_of-self
 invariant_of-self g c =
     let h = c.self.inside in
-    kept_alike h.config h.next_key h.tables c.reserve_delivery.new.self c.reserve_delivery.ensures.alike c.self.invariant
+    kept_alike h.config h.next_key h.tables c.reserve_delivery.new.tables c.reserve_delivery.ensures.alike c.self.invariant
 
 pub returns-in_err-reserve_delivery-clause-err : goal.returns-in_err-reserve_delivery-clause-err
 returns-in_err-reserve_delivery-clause-err g c =
     let h = c.self.inside in
-    err_any c.from_residual-in_err-reserve_delivery.result (hub_alike h.config h.clock h.next_key h.tables c.reserve_delivery.new.self c.reserve_delivery.ensures.alike ∙ c.self.view_is)
+    err_any c.from_residual-in_err-reserve_delivery.result (hub_alike h.config h.clock h.next_key h.tables c.reserve_delivery.new.tables c.reserve_delivery.ensures.alike ∙ c.self.view_is)
 
 pub invariant_of-self-then-not-branch : goal.invariant_of-self-then-not-branch
 invariant_of-self-then-not-branch g c =
     let h = c.self.inside in
-    kept_alike h.config h.next_key h.tables c.reserve_delivery.new.self c.reserve_delivery.ensures.alike c.self.invariant
+    kept_alike h.config h.next_key h.tables c.reserve_delivery.new.tables c.reserve_delivery.ensures.alike c.self.invariant
 
 pub returns-then-not-branch-clause-full : goal.returns-then-not-branch-clause-full
 returns-then-not-branch-clause-full g c = λ full.
     let h = c.self.inside in
-    hub_alike h.config h.clock h.next_key h.tables c.reserve_delivery.new.self c.reserve_delivery.ensures.alike ∙ c.self.view_is
+    hub_alike h.config h.clock h.next_key h.tables c.reserve_delivery.new.tables c.reserve_delivery.ensures.alike ∙ c.self.view_is
 
 pub returns-then-not-branch-clause-closed : goal.returns-then-not-branch-clause-closed
 returns-then-not-branch-clause-closed g c = λ full conn fits new says goes.
@@ -91,7 +92,7 @@ returns-then-not-branch-clause-closed g c = λ full conn fits new says goes.
     (sym c.if-not-branch.true ∙ c.in_ok-reserve_delivery.ensures.enough old (has_sessions h.config h.clock h.next_key t c.self.invariant) (sym c.rules_of-rules.ensures))
     (subst (λ (n : Message). c.in_ok-plan.plan.copies.items ≡ copies_of n old) c.into_message-message.ensures (c.in_ok-plan.ensures.copies h.config h.clock h.next_key)) refl in
     subst (λ (s : HubState). Refines (on_connected_packet conn key (packets.Publish m) fits) s c.args.log.now.acts new says) c.self.view_is
-    (unhanded_goes h.config h.clock h.next_key key t c.reserve_delivery.new.self c.self.invariant c.reserve_delivery.ensures.alike on.conn on.is m handed
+    (unhanded_goes h.config h.clock h.next_key key t c.reserve_delivery.new.tables c.self.invariant c.reserve_delivery.ensures.alike on.conn on.is m handed
     conn fits new c.args.log.now.acts says (sym room)
     (subst (λ (s : HubState). Refines (close conn TargetFull fits) s c.args.log.now.acts new says) (sym c.self.view_is) goes))
 
@@ -99,16 +100,16 @@ pub invariant_of-self-in_err-take_publish : goal.invariant_of-self-in_err-take_p
 invariant_of-self-in_err-take_publish g c =
     let h = c.self.inside in
     let on = on_seen h.config h.clock h.next_key h.tables c.args.self.now c.args.key c.self.view_is c.requires.up in
-    kept_unhanded h.config h.clock h.next_key c.args.key h.tables c.reserve_delivery.new.self c.self.invariant c.reserve_delivery.ensures.alike on.conn on.is c.args.publish
-    c.take_publish.new.self c.in_err-take_publish.ensures.err
+    kept_unhanded h.config h.clock h.next_key c.args.key h.tables c.reserve_delivery.new.tables c.self.invariant c.reserve_delivery.ensures.alike on.conn on.is c.args.publish
+    c.take_publish.new.tables c.in_err-take_publish.ensures.err
 
 pub returns-in_err-take_publish-clause-err : goal.returns-in_err-take_publish-clause-err
 returns-in_err-take_publish-clause-err g c =
     let h = c.self.inside in
     let on = on_seen h.config h.clock h.next_key h.tables c.args.self.now c.args.key c.self.view_is c.requires.up in
     err_any c.from_residual-in_err-take_publish.result
-    (same_unhanded h.config h.clock h.next_key c.args.key h.tables c.reserve_delivery.new.self c.self.invariant c.reserve_delivery.ensures.alike on.conn on.is c.args.publish
-    c.take_publish.new.self c.in_err-take_publish.ensures.err ∙ c.self.view_is)
+    (same_unhanded h.config h.clock h.next_key c.args.key h.tables c.reserve_delivery.new.tables c.self.invariant c.reserve_delivery.ensures.alike on.conn on.is c.args.publish
+    c.take_publish.new.tables c.in_err-take_publish.ensures.err ∙ c.self.view_is)
 
 pub invariant_of-self-2 : goal.invariant_of-self-2
 invariant_of-self-2 g c =
@@ -119,19 +120,19 @@ invariant_of-self-2 g c =
     let handed = subst (λ (s : HubState). IsReceived Handed m (end_of key s.sessions)) (sym c.self.view_is) c.requires.handed in
     c.deliver.ensures.keeps m.message h.config h.next_key
     (subst (λ k. IsKeptOf m.message k) (sym c.reserve_delivery.ensures.kept) (subst (λ (n : Message). IsKeptOf n c.in_ok-plan.plan.kept) c.into_message-message.ensures c.in_ok-plan.ensures.kept))
-    (kept_handed h.config h.clock h.next_key key h.tables c.reserve_delivery.new.self c.self.invariant c.reserve_delivery.ensures.alike on.conn on.is m handed
-    c.take_publish.new.self (taken_as (publish_of c.into_message-message.result c.delivery-delivery.result) m c.args.key h.clock c.reserve_delivery.new.self c.take_publish.new.self (same_publish c.args.publish c.into_message-message.result c.delivery-delivery.result c.into_message-message.ensures c.delivery-delivery.ensures.value) c.in_ok-take_publish.ensures.ok))
+    (kept_handed h.config h.clock h.next_key key h.tables c.reserve_delivery.new.tables c.self.invariant c.reserve_delivery.ensures.alike on.conn on.is m handed
+    c.take_publish.new.tables (taken_as (publish_of c.into_message-message.result c.delivery-delivery.result) m c.args.key h.clock c.reserve_delivery.new.tables c.take_publish.new.tables (same_publish c.args.publish c.into_message-message.result c.delivery-delivery.result c.into_message-message.ensures c.delivery-delivery.ensures.value) c.in_ok-take_publish.ensures.ok))
     (subst (λ (s : HubState). publish_size m.message ≤ s.config.limits.most) (sym c.self.view_is) c.requires.within)
 
 pub returns-clause-takes : goal.returns-clause-takes
 returns-clause-takes g c = λ done conn fits.
     let h = c.self.inside in
     let t : HubTables = h.tables in
-    let p : HubTables = c.reserve_delivery.new.self in
-    let u : HubTables = c.take_publish.new.self in
+    let p : HubTables = c.reserve_delivery.new.tables in
+    let u : HubTables = c.take_publish.new.tables in
     let old : HubState = hub_of h.config h.clock h.next_key t in
     let here : HubState = hub_of h.config h.clock h.next_key u in
-    let after : HubState = hub_of h.config h.clock h.next_key c.deliver.new.self in
+    let after : HubState = hub_of h.config h.clock h.next_key c.deliver.new.tables in
     let key = c.args.key in
     let m = c.args.publish in
     let s = c.in_ok-plan.plan in

@@ -7,10 +7,11 @@ use Rattle.mq_route.specs.declared.close.HubClose.TheVariants.{TargetFull}
 use Rattle.mq_route.specs.Arrives.{answers, on_passed_packet}
 use Rattle.mq_route.specs.Hub.{HubState}
 use Rattle.mq_route.specs.Work.{close, have_room, retained_copies}
+use Rattle.mq_tables.specs.Rules.{rules_of}
+use Rattle.mq_tables.specs.Tables.{HubTables}
 use Rattle.mq_hub.specs.Inside.Refinement.{Refines}
 use Rattle.mq_hub.specs.Inside.Placement.{HasSessions}
-use Rattle.mq_hub.specs.Inside.Rules.{rules_of}
-use Rattle.mq_hub.specs.Inside.View.{HubTables, hub_of}
+use Rattle.mq_hub.specs.Inside.View.{hub_of}
 use Rattle.mq_hub.specs.Inside.Subscriptions.{subscribed_acts}
 use Rattle.mq_hub.proofs.RequestPackets.{asked_goes, unasked_goes}
 use Rattle.mq_hub.proofs.OtherRoom.{hub_alike, kept_alike}
@@ -34,7 +35,7 @@ subscribe-requires-clause-due g c =
 pub invariant_of-self : goal.invariant_of-self
 invariant_of-self g c =
     let h = c.self.inside in
-    let u : HubTables = c.subscribe.new.self in
+    let u : HubTables = c.subscribe.new.tables in
     let on = on_seen h.config h.clock h.next_key h.tables c.args.self.now c.args.key c.self.view_is c.requires.up in
     three c.subscribe.result c.subscribe.ensures.done c.subscribe.ensures.full c.subscribe.ensures.err
     (λ d. kept_subscribed h.config h.next_key c.args.key h.tables u c.self.invariant on.conn on.is c.args.id c.args.requests c.rules_of-rules.result d.0 d.1)
@@ -52,7 +53,7 @@ pub returns-clause-goes : goal.returns-clause-goes
 returns-clause-goes g c = λ done conn.
     let h = c.self.inside in
     let d = c.subscribe.ensures.done done in
-    let u : HubTables = c.subscribe.new.self in
+    let u : HubTables = c.subscribe.new.tables in
     let on = on_seen h.config h.clock h.next_key h.tables c.args.self.now c.args.key c.self.view_is c.requires.up in
     subst (λ (s : HubState). Refines (answers conn c.args.key (happens.Subscribe c.args.id c.args.requests)) s c.args.log.now.acts
     (hub_of h.config h.clock h.next_key u) c.subscribe.new.log.acts) c.self.view_is
@@ -63,7 +64,7 @@ returns-clause-goes g c = λ done conn.
 pub returns-clause-takes : goal.returns-clause-takes
 returns-clause-takes g c = λ done conn fits.
     let h = c.self.inside in
-    let u : HubTables = c.subscribe.new.self in
+    let u : HubTables = c.subscribe.new.tables in
     let key = c.args.key in
     let p = packets.Subscribe c.args.id c.args.requests in
     let old = hub_of h.config h.clock h.next_key h.tables in
@@ -94,11 +95,11 @@ returns-clause-closed g c = λ full conn fits new says goes.
 pub returns-clause-full : goal.returns-clause-full
 returns-clause-full g c = λ full.
     let h = c.self.inside in
-    let u : HubTables = c.subscribe.new.self in
+    let u : HubTables = c.subscribe.new.tables in
     hub_alike h.config h.next_key h.tables c.self.invariant h.clock u (c.subscribe.ensures.full full) ∙ c.self.view_is
 
 pub returns-clause-err : goal.returns-clause-err
 returns-clause-err g c =
     let h = c.self.inside in
-    let u : HubTables = c.subscribe.new.self in
+    let u : HubTables = c.subscribe.new.tables in
     err_bool c.subscribe.result c.subscribe.ensures.err (λ a. hub_alike h.config h.next_key h.tables c.self.invariant h.clock u a ∙ c.self.view_is)

@@ -2,9 +2,10 @@ use Rattle.std.proofs.Common.{◌≡◌, ◌∙◌, List, ℕ, sym, ap, subst}
 use Rattle.mq_route.specs.declared.config.HubConfig.{HubConfig}
 use Rattle.mq_route.specs.Hub.{HubState, HubConnection}
 use Rattle.mq_route.specs.Step.{expired_keys, remove_all, told}
+use Rattle.mq_tables.specs.Late.{HasLate}
 use Rattle.mq_hub.specs.Inside.Expiry.{AreAway}
 use Rattle.mq_hub.specs.Inside.Refinement.{Refines}
-use Rattle.mq_hub.specs.Inside.Tick.{HasLate, TicksTo}
+use Rattle.mq_hub.specs.Inside.Tick.{TicksTo}
 use Rattle.mq_hub.proofs.ExpiredSessions.{config_left, connections_left, tick_step}
 use Rattle.mq_hub.proofs.hub.HubOver.on_tick.Goals as goal
 

@@ -5,8 +5,9 @@ use Rattle.mq_end.specs.declared.happening.Happening.TheVariants as happens
 use Rattle.mq_route.specs.declared.act.Act.{Act}
 use Rattle.mq_route.specs.Arrives.{answers, on_connected_packet}
 use Rattle.mq_route.specs.Hub.{HubState}
+use Rattle.mq_tables.specs.Tables.{HubTables}
 use Rattle.mq_hub.specs.Inside.Refinement.{Refines}
-use Rattle.mq_hub.specs.Inside.View.{HubTables, hub_of}
+use Rattle.mq_hub.specs.Inside.View.{hub_of}
 use Rattle.mq_hub.specs.Inside.Subscriptions.{unsubscribed_acts}
 use Rattle.mq_hub.proofs.RequestPackets.{asked_goes}
 use Rattle.mq_hub.proofs.SessionRoom.{room_none}
@@ -24,7 +25,7 @@ unsubscribe-requires g c =
 pub invariant_of-self : goal.invariant_of-self
 invariant_of-self g c =
     let h = c.self.inside in
-    let u : HubTables = c.unsubscribe.new.self in
+    let u : HubTables = c.unsubscribe.new.tables in
     let on = on_seen h.config h.clock h.next_key h.tables c.args.self.now c.args.key c.self.view_is c.requires.up in
     either c.unsubscribe.result c.unsubscribe.ensures.ok c.unsubscribe.ensures.err
     (λ a. kept_unsubscribed h.config h.next_key c.args.key h.tables u c.self.invariant on.conn on.is c.args.id c.args.filters a)
@@ -33,7 +34,7 @@ invariant_of-self g c =
 pub returns-clause-goes : goal.returns-clause-goes
 returns-clause-goes g c =
     let h = c.self.inside in
-    let u : HubTables = c.unsubscribe.new.self in
+    let u : HubTables = c.unsubscribe.new.tables in
     let on = on_seen h.config h.clock h.next_key h.tables c.args.self.now c.args.key c.self.view_is c.requires.up in
     ok_both c.unsubscribe.result c.unsubscribe.ensures.ok c.unsubscribe.ensures.acts
     (λ a says conn. subst (λ (s : HubState). Refines (answers conn c.args.key (happens.Unsubscribe c.args.id c.args.filters)) s c.args.log.now.acts
@@ -45,7 +46,7 @@ returns-clause-goes g c =
 pub returns-clause-takes : goal.returns-clause-takes
 returns-clause-takes g c =
     let h = c.self.inside in
-    let u : HubTables = c.unsubscribe.new.self in
+    let u : HubTables = c.unsubscribe.new.tables in
     let key = c.args.key in
     let p = packets.Unsubscribe c.args.id c.args.filters in
     let says = c.args.log.now.acts ++ unsubscribed_acts key c.args.filters in
@@ -62,5 +63,5 @@ returns-clause-takes g c =
 pub returns-clause-err : goal.returns-clause-err
 returns-clause-err g c =
     let h = c.self.inside in
-    let u : HubTables = c.unsubscribe.new.self in
+    let u : HubTables = c.unsubscribe.new.tables in
     err_so c.unsubscribe.result c.unsubscribe.ensures.err (λ a. hub_alike h.config h.next_key h.tables c.self.invariant h.clock u a ∙ c.self.view_is)

@@ -1,8 +1,8 @@
 use Rattle.std.proofs.Common.{◌≡◌, ◌∙◌, false, refl, sym, ap}
 use Rattle.mq_route.specs.Hub.{HubState, HubConnection, knows}
+use Rattle.mq_tables.specs.Tables.{HubTables}
+use Rattle.mq_tables.proofs.FirstPackets.{err_by, ok_by}
 use Rattle.mq_hub.specs.Inside.Loading.{opened_at, with_opened}
-use Rattle.mq_hub.specs.Inside.View.{HubTables}
-use Rattle.mq_hub.proofs.FirstPackets.{err_by, ok_by}
 use Rattle.mq_hub.proofs.GrantedRows.{either}
 use Rattle.mq_hub.proofs.InvariantChanges.{kept_by, kept_opened}
 use Rattle.mq_hub.proofs.LoadedConnections.{hub_opened}

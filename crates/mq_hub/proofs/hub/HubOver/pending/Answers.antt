@@ -1,6 +1,6 @@
 use Rattle.std.proofs.Common.{◌∙◌, length, sym, ap}
 use Rattle.mq_route.specs.Hub.{HubState, waiting_on}
-use Rattle.mq_hub.specs.Inside.View.{output_of}
+use Rattle.mq_tables.specs.Output.{output_of}
 use Rattle.mq_hub.proofs.ConnectionChange.{waiting_own}
 use Rattle.mq_hub.proofs.PendingLengths.{key_waits}
 use Rattle.mq_hub.proofs.hub.HubOver.pending.Goals as goal

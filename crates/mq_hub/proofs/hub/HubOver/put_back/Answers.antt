@@ -1,8 +1,8 @@
 use Rattle.std.proofs.Common.{◌∙◌, ℕ, List, [], sym, ap, subst}
 use Rattle.mq_route.specs.Hub.{HubState}
+use Rattle.mq_tables.proofs.PendingBytes.{none_pending}
 use Rattle.mq_hub.specs.Inside.Input.{RefinesBytes, with_held}
 use Rattle.mq_hub.proofs.InputBytes.{lets_go_by, open_known, waits_by}
-use Rattle.mq_hub.proofs.PendingBytes.{none_pending}
 use Rattle.mq_hub.proofs.hub.HubOver.put_back.Goals as goal
 
 pub swap_decoder-requires-clause-known : goal.swap_decoder-requires-clause-known

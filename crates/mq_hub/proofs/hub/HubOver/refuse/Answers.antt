@@ -1,10 +1,11 @@
 use Rattle.std.proofs.Common.{◌≡◌, ◌∙◌, sym, ap}
 use Rattle.mq_route.specs.declared.connection_state.ConnectionState.TheVariants.{AwaitingConnect}
 use Rattle.mq_route.specs.Hub.{HubState, key_on, stage_of, with_connection}
-use Rattle.mq_hub.specs.Inside.View.{HubTables, hub_of}
+use Rattle.mq_tables.specs.Tables.{HubTables}
+use Rattle.mq_tables.proofs.ClosedConnection.{closed}
+use Rattle.mq_hub.specs.Inside.View.{hub_of}
 use Rattle.mq_hub.proofs.ConnectionChange.{stage_seen}
 use Rattle.mq_hub.proofs.RefusedConnect.{fresh_known, goes_refused, grown, hub_closed_with, kept_closed_with}
-use Rattle.mq_hub.proofs.ClosedConnection.{closed}
 use Rattle.mq_hub.proofs.hub.HubOver.refuse.Goals as goal
 
 pub shut_with-requires : goal.shut_with-requires

@@ -1,7 +1,8 @@
 use Rattle.std.proofs.Common.{◌≡◌, ◌∙◌, None, sym, ap}
 use Rattle.mq_topic.specs.Rows.{without_client}
 use Rattle.mq_route.specs.Hub.{HubState, up_on, without_session}
-use Rattle.mq_hub.specs.Inside.View.{HubTables, hub_of}
+use Rattle.mq_tables.specs.Tables.{HubTables}
+use Rattle.mq_hub.specs.Inside.View.{hub_of}
 use Rattle.mq_hub.proofs.ConnectionChange.{up_seen}
 use Rattle.mq_hub.proofs.RemovedSession.{goes_removed, hub_removed, kept_removed}
 use Rattle.mq_hub.proofs.hub.HubOver.remove.Goals as goal

@@ -7,12 +7,13 @@ use Rattle.mq_route.specs.declared.connection_state.ConnectionTerms.{ConnectionT
 use Rattle.mq_route.specs.Arrives.{start_session}
 use Rattle.mq_route.specs.Hub.{HubState, HubConnection, key_of, stage_of, up_on, with_connection, without_session}
 use Rattle.mq_route.specs.Work.{remove}
-use Rattle.mq_hub.specs.declared.sessions.session.BrokerSession.{BrokerSession}
+use Rattle.mq_tables.specs.declared.sessions.session.BrokerSession.{BrokerSession}
+use Rattle.mq_tables.specs.Tables.{HubTables}
+use Rattle.mq_tables.specs.Sessions.{sessions_of, AreBelow}
 use Rattle.mq_hub.specs.Inside.Refinement.{Refines}
 use Rattle.mq_hub.specs.Inside.Invariant.{HubInvariant, IsWillWithin}
 use Rattle.mq_hub.specs.Inside.ConnectRoom.{IsNewSession}
-use Rattle.mq_hub.specs.Inside.View.{HubTables, hub_of}
-use Rattle.mq_hub.specs.Inside.Sessions.{sessions_of, AreBelow}
+use Rattle.mq_hub.specs.Inside.View.{hub_of}
 use Rattle.mq_hub.proofs.NewSession.{goes_begun, keeps_begun, none_up}
 use Rattle.mq_hub.proofs.ConnectionChange.{stage_seen, up_seen}
 use Rattle.mq_hub.proofs.Refinements.{goes_then}

@@ -1,7 +1,7 @@
 use Rattle.std.proofs.Common.{◌∙◌, sym, ap}
 use Rattle.mq_packet.specs.declared.connect.Connect.{Connect}
+use Rattle.mq_tables.proofs.FirstPackets.{ok_by}
 use Rattle.mq_hub.proofs.AcceptConnect.{goes_renewed, goes_resumed, stands_by}
-use Rattle.mq_hub.proofs.FirstPackets.{ok_by}
 use Rattle.mq_hub.proofs.hub.HubOver.resume.Goals as goal
 
 pub resume_session-requires-clause-stands : goal.resume_session-requires-clause-stands

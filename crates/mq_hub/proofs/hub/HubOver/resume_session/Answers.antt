@@ -6,13 +6,14 @@ use Rattle.mq_route.specs.declared.connection_state.ConnectionState.TheVariants.
 use Rattle.mq_route.specs.declared.connection_state.ConnectionTerms.{ConnectionTerms}
 use Rattle.mq_route.specs.Arrives.{resume_session, terms_of}
 use Rattle.mq_route.specs.Hub.{HubState, HubConnection, stage_of, up_on, with_connection}
+use Rattle.mq_tables.specs.Tables.{HubTables}
+use Rattle.mq_tables.specs.Sessions.{session_at}
+use Rattle.mq_tables.proofs.FirstPackets.{err_any}
 use Rattle.mq_hub.specs.Inside.Refinement.{Refines}
 use Rattle.mq_hub.specs.Inside.Invariant.{IsWillWithin}
 use Rattle.mq_hub.specs.Inside.ConnectRoom.{has_session}
-use Rattle.mq_hub.specs.Inside.View.{HubTables, hub_of}
-use Rattle.mq_hub.specs.Inside.Sessions.{session_at}
+use Rattle.mq_hub.specs.Inside.View.{hub_of}
 use Rattle.mq_hub.proofs.ConnectionChange.{stage_seen, up_seen}
-use Rattle.mq_hub.proofs.FirstPackets.{err_any}
 use Rattle.mq_hub.proofs.InvariantChanges.{kept_by}
 use Rattle.mq_hub.proofs.ConnectedSession.{goes_on_greeted, hub_roomed, keeps_greeted, kept_roomed, stands_of}
 use Rattle.mq_hub.proofs.TableView.{hub_same}

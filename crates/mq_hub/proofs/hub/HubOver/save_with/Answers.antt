@@ -1,7 +1,7 @@
 use Rattle.std.proofs.Common.{All, ap, subst}
 use Rattle.mq_route.specs.Snapshot.{HasIdentifiers, IsStorable}
-use Rattle.mq_hub.specs.Inside.Sessions.{session_of}
-use Rattle.mq_hub.proofs.SavedSessions.{all_identified}
+use Rattle.mq_tables.specs.Sessions.{session_of}
+use Rattle.mq_tables.proofs.SavedSessions.{all_identified}
 use Rattle.mq_hub.proofs.hub.HubOver.save_with.Goals as goal
 
 pub returns-clause-storable : goal.returns-clause-storable

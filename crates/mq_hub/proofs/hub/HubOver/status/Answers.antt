@@ -1,8 +1,9 @@
 use Rattle.std.proofs.Common.{◌∙◌, ℕ, Option, Some, sym, ap, subst}
 use Rattle.std.specs.Option.{is_some}
 use Rattle.mq_route.specs.Hub.{HubState, key_of}
+use Rattle.mq_tables.specs.Tables.{HubTables}
 use Rattle.mq_hub.specs.declared.connect.check.SessionStatus.{SessionStatus}
-use Rattle.mq_hub.specs.Inside.View.{HubTables, hub_of}
+use Rattle.mq_hub.specs.Inside.View.{hub_of}
 use Rattle.mq_hub.specs.Inside.ConnectChecks.{IsStatusOf}
 use Rattle.mq_hub.proofs.ConnectionChange.{up_seen}
 use Rattle.mq_hub.proofs.Counts.{ends_seen}

@@ -1,7 +1,8 @@
 use Rattle.std.proofs.Common.{◌∙◌, sym, ap}
 use Rattle.mq_route.specs.Hub.{HubState, changed, held_on, knows}
-use Rattle.mq_hub.specs.Inside.Input.{holds, with_held}
-use Rattle.mq_hub.specs.Inside.View.{HubTables}
+use Rattle.mq_tables.specs.Connections.{holds}
+use Rattle.mq_tables.specs.Tables.{HubTables}
+use Rattle.mq_hub.specs.Inside.Input.{with_held}
 use Rattle.mq_hub.proofs.SameSessions.{held_seen, holds_stays, hub_alike, kept_alike, stays_on}
 use Rattle.mq_hub.proofs.TableView.{knows_seen}
 use Rattle.mq_hub.proofs.hub.HubOver.swap_decoder.Goals as goal

@@ -2,7 +2,7 @@ use Rattle.std.proofs.Common.{◌∙◌, ◌||◌, ap, sym}
 use Rattle.std.proofs.lemmas.Bool.{or_parts}
 use Rattle.mq_packet.specs.declared.connect.Connect.{Connect}
 use Rattle.mq_route.specs.Hub.{is_clean, stage_of}
-use Rattle.mq_hub.proofs.FirstPackets.{ok_by}
+use Rattle.mq_tables.proofs.FirstPackets.{ok_by}
 use Rattle.mq_hub.proofs.TakeOver.{goes_admitted, goes_on_admitted}
 use Rattle.mq_hub.proofs.hub.HubOver.take_over.Goals as goal
 

@@ -7,12 +7,13 @@ use Rattle.mq_route.specs.Arrives.{start_session}
 use Rattle.mq_route.specs.Hub.{HubState, HubConnection, is_clean, key_of, key_on, stage_of, up_on, with_connection}
 use Rattle.mq_route.specs.declared.close.HubClose.TheVariants.{TakenOver}
 use Rattle.mq_route.specs.Work.{remove_if}
-use Rattle.mq_hub.specs.declared.sessions.session.BrokerSession.{BrokerSession}
+use Rattle.mq_tables.specs.declared.sessions.session.BrokerSession.{BrokerSession}
+use Rattle.mq_tables.specs.Tables.{HubTables}
+use Rattle.mq_tables.specs.Sessions.{sessions_of, AreBelow}
 use Rattle.mq_hub.specs.Inside.Refinement.{Refines}
 use Rattle.mq_hub.specs.Inside.Invariant.{IsWillWithin}
 use Rattle.mq_hub.specs.Inside.ConnectRoom.{IsNewSession}
-use Rattle.mq_hub.specs.Inside.View.{HubTables, hub_of}
-use Rattle.mq_hub.specs.Inside.Sessions.{sessions_of, AreBelow}
+use Rattle.mq_hub.specs.Inside.View.{hub_of}
 use Rattle.mq_hub.proofs.DisconnectTimes.{closed_at}
 use Rattle.mq_hub.proofs.NewSession.{none_up}
 use Rattle.mq_hub.proofs.TakeOver.{goes_anew, hub_roomed, keeps_anew, kept_roomed, over_at, over_by, stage_there}
@@ -44,7 +45,7 @@ pub begin-requires-clause-away : goal.begin-requires-clause-away
 begin-requires-clause-away g c =
     let h = c.self.inside in
     let r = c.reserve_session.ensures in
-    let v : HubTables = c.take_over_ending.new.self in
+    let v : HubTables = c.take_over_ending.new.tables in
     let kept = kept_roomed h.config h.next_key h.tables c.reserve_session.new.self r.rest r.list r.connections c.self.invariant r.limits in
     let left = c.take_over_ending.ensures.proceeds.keeps h.config h.next_key kept in
     ap (λ (s : BrokerSession). up_on s.key v.connections.connections) c.in_ok-beginning.ensures.boxed.after
@@ -55,7 +56,7 @@ pub begin-requires-clause-key : goal.begin-requires-clause-key
 begin-requires-clause-key g c =
     let h = c.self.inside in
     let r = c.reserve_session.ensures in
-    let v : HubTables = c.take_over_ending.new.self in
+    let v : HubTables = c.take_over_ending.new.tables in
     let kept = kept_roomed h.config h.next_key h.tables c.reserve_session.new.self r.rest r.list r.connections c.self.invariant r.limits in
     let left = c.take_over_ending.ensures.proceeds.keeps h.config h.next_key kept in
     subst (λ (n : ℕ). AreBelow n v.sessions.list)
@@ -63,7 +64,7 @@ begin-requires-clause-key g c =
 
 pub begin-requires-clause-client : goal.begin-requires-clause-client
 begin-requires-clause-client g c =
-    let v : HubTables = c.take_over_ending.new.self in
+    let v : HubTables = c.take_over_ending.new.tables in
     ap (λ (s : BrokerSession). key_of s.client (sessions_of v.sessions.list)) c.in_ok-beginning.ensures.boxed.after
     ∙ c.take_over_ending.ensures.gone c.args.client
     (ap (λ (ts : List BrokerSession). key_of c.args.client (sessions_of ts)) c.reserve_session.ensures.list
@@ -74,7 +75,7 @@ invariant_of-self-2 g c =
     let h = c.self.inside in
     let t : HubTables = h.tables in
     let r : HubTables = c.reserve_session.new.self in
-    let v : HubTables = c.take_over_ending.new.self in
+    let v : HubTables = c.take_over_ending.new.tables in
     let u : HubTables = c.begin.new.self in
     let k = c.args.conn in
     let e = c.reserve_session.ensures in
@@ -99,7 +100,7 @@ returns-clause-goes g c =
     let h = c.self.inside in
     let t : HubTables = h.tables in
     let r : HubTables = c.reserve_session.new.self in
-    let v : HubTables = c.take_over_ending.new.self in
+    let v : HubTables = c.take_over_ending.new.tables in
     let u : HubTables = c.begin.new.self in
     let k = c.args.conn in
     let other = c.args.other in

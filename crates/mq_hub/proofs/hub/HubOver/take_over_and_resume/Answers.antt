@@ -8,14 +8,16 @@ use Rattle.mq_route.specs.declared.connection_state.ConnectionTerms.{ConnectionT
 use Rattle.mq_route.specs.Arrives.{resume_session, terms_of}
 use Rattle.mq_route.specs.Hub.{HubState, HubConnection, is_clean, key_on, stage_of, with_connection}
 use Rattle.mq_route.specs.Work.{close}
+use Rattle.mq_tables.specs.Connecting.{HasConnectRoomAt}
+use Rattle.mq_tables.specs.Tables.{HubTables}
+use Rattle.mq_tables.proofs.FirstPackets.{err_any}
 use Rattle.mq_hub.specs.Inside.Refinement.{Refines}
 use Rattle.mq_hub.specs.Inside.Invariant.{IsWillWithin}
 use Rattle.mq_hub.specs.Inside.Close.{close_at, will_left}
-use Rattle.mq_hub.specs.Inside.ConnectRoom.{will_messages, HasConnectRoomAt}
-use Rattle.mq_hub.specs.Inside.View.{HubTables, hub_of}
+use Rattle.mq_hub.specs.Inside.ConnectRoom.{will_messages}
+use Rattle.mq_hub.specs.Inside.View.{hub_of}
 use Rattle.mq_hub.proofs.DisconnectTimes.{closed_at}
 use Rattle.mq_hub.proofs.TakenOutput.{backed_at}
-use Rattle.mq_hub.proofs.FirstPackets.{err_any}
 use Rattle.mq_hub.proofs.TakeOverResume.{goes_over, hub_made, keeps_over, kept_made, output_still}
 use Rattle.mq_hub.proofs.TakeOver.{stage_there}
 use Rattle.mq_hub.proofs.hub.HubOver.take_over_and_resume.Goals as goal
@@ -94,7 +96,7 @@ invariant_of-self-2 g c =
     let h = c.self.inside in
     let t : HubTables = h.tables in
     let r : HubTables = c.reserve_connect.new.self in
-    let v : HubTables = c.take_over_keeping.new.self in
+    let v : HubTables = c.take_over_keeping.new.tables in
     let u : HubTables = c.resume_when_ready.new.self in
     let k = c.args.conn in
     let key = c.args.key in
@@ -115,7 +117,7 @@ returns-clause-goes g c =
     let h = c.self.inside in
     let t : HubTables = h.tables in
     let r : HubTables = c.reserve_connect.new.self in
-    let v : HubTables = c.take_over_keeping.new.self in
+    let v : HubTables = c.take_over_keeping.new.tables in
     let u : HubTables = c.resume_when_ready.new.self in
     let k = c.args.conn in
     let key = c.args.key in

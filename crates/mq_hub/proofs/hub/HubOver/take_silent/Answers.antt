@@ -2,8 +2,9 @@ use Rattle.std.proofs.Common.{◌≡◌, ◌∙◌, None, sym, subst}
 use Rattle.mq_end.specs.Server.{server_gets}
 use Rattle.mq_route.specs.Hub.{HubState, end_of}
 use Rattle.mq_route.specs.Work.{does}
+use Rattle.mq_tables.specs.Tables.{HubTables}
 use Rattle.mq_hub.specs.Inside.Refinement.{Refines}
-use Rattle.mq_hub.specs.Inside.View.{HubTables, hub_of}
+use Rattle.mq_hub.specs.Inside.View.{hub_of}
 use Rattle.mq_hub.proofs.OtherRoom.{hub_alike, kept_alike}
 use Rattle.mq_hub.proofs.GrantedRows.{can_take, either, err_so, ok_both, on_seen}
 use Rattle.mq_hub.proofs.PacketSteps.{kept_taken, silent_goes, taken_goes}
@@ -18,7 +19,7 @@ take-requires g c =
 pub invariant_of-self : goal.invariant_of-self
 invariant_of-self g c =
     let h = c.self.inside in
-    let u : HubTables = c.take.new.self in
+    let u : HubTables = c.take.new.tables in
     let on = on_seen h.config h.clock h.next_key h.tables c.args.self.now c.args.key c.self.view_is c.requires.up in
     either c.take.result c.take.ensures.ok c.take.ensures.err
     (λ a. kept_taken h.config h.next_key c.args.key h.tables u c.self.invariant on.conn on.is h.clock c.args.packet a
@@ -28,7 +29,7 @@ invariant_of-self g c =
 pub returns-clause-goes : goal.returns-clause-goes
 returns-clause-goes g c =
     let h = c.self.inside in
-    let u : HubTables = c.take.new.self in
+    let u : HubTables = c.take.new.tables in
     let p = c.args.packet in
     let key = c.args.key in
     let on = on_seen h.config h.clock h.next_key h.tables c.args.self.now key c.self.view_is c.requires.up in
@@ -40,5 +41,5 @@ returns-clause-goes g c =
 pub returns-clause-err : goal.returns-clause-err
 returns-clause-err g c =
     let h = c.self.inside in
-    let u : HubTables = c.take.new.self in
+    let u : HubTables = c.take.new.tables in
     err_so c.take.result c.take.ensures.err (λ a. hub_alike h.config h.next_key h.tables c.self.invariant h.clock u a ∙ c.self.view_is)

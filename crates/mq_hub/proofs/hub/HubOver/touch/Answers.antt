@@ -1,8 +1,9 @@
 use Rattle.std.proofs.Common.{◌≡◌, ◌∙◌, true, ℕ, sym, ap}
 use Rattle.mq_end.specs.End.{is_up}
 use Rattle.mq_route.specs.Hub.{HubState, changed, end_of, key_on, stage_of}
-use Rattle.mq_hub.specs.Inside.Input.{touched_at, with_touched}
-use Rattle.mq_hub.specs.Inside.View.{HubTables}
+use Rattle.mq_tables.specs.Connections.{touched_at}
+use Rattle.mq_tables.specs.Tables.{HubTables}
+use Rattle.mq_hub.specs.Inside.Input.{with_touched}
 use Rattle.mq_hub.proofs.SameSessions.{hears_stays, hub_alike, kept_alike, stays_on}
 use Rattle.mq_hub.proofs.MalformedBytes.{end_up}
 use Rattle.mq_hub.proofs.ConnectionChange.{stage_seen}

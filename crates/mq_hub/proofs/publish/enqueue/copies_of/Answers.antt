@@ -2,8 +2,8 @@ use Rattle.std.proofs.Common.{◌≡◌, ◌∙◌, List, [], ℕ, vec_len, sym,
 use Rattle.std.proofs.lemmas.List.{nil_from_length}
 use Rattle.mq_topic.specs.Rows.{Row, matched}
 use Rattle.mq_packet.specs.declared.message.Message.{Message}
+use Rattle.mq_tables.specs.Connections.{ConnectionList}
 use Rattle.mq_hub.specs.Inside.Placement.{AreApart, AreFor, copies_found}
-use Rattle.mq_hub.specs.Inside.Connections.{ConnectionList}
 use Rattle.mq_hub.proofs.CopyTargets.{due_for}
 use Rattle.std.proofs.lemmas.Float.{T_from_true}
 use Rattle.mq_hub.proofs.PlannedCopies.{found_alike, found_is, found_apart, hidden_none, if_ok}

@@ -2,7 +2,8 @@ use Rattle.std.proofs.Common.{◌≡◌, ◌∙◌, ◌+◌, ◌<◌, ◌∷◌,
 use Rattle.mq_packet.specs.declared.message.Message.{Message}
 use Rattle.mq_route.specs.Hub.{for_key}
 use Rattle.mq_route.specs.Work.{all_fit}
-use Rattle.mq_hub.specs.Inside.Placement.{AreReady, IsFor, IsReadyAt, is_among}
+use Rattle.mq_tables.specs.Publishing.{IsReadyAt}
+use Rattle.mq_hub.specs.Inside.Placement.{AreReady, IsFor, is_among}
 use Rattle.mq_hub.proofs.SessionRoom.{all_at, all_more, apart_at, are_for_same, drop_at, has_same, fit_none, still_all, ended}
 use Rattle.mq_hub.proofs.publish.enqueue.make_room.Goals as goal
 

@@ -1,7 +1,8 @@
 use Rattle.std.proofs.Common.{◌≡◌, take, drop}
 use Rattle.mq_route.specs.Hub.{HubState}
 use Rattle.mq_route.specs.Work.{all_fit}
-use Rattle.mq_hub.specs.Inside.Placement.{AreFor, AreReady, AreSameButRoom, AreStillReady, HasSessions}
+use Rattle.mq_tables.specs.Publishing.{AreSameButRoom, AreStillReady}
+use Rattle.mq_hub.specs.Inside.Placement.{AreFor, AreReady, HasSessions}
 use Rattle.mq_hub.proofs.publish.enqueue.make_room.Given as goal
 
 abbrev pub invariant-loop-due : goal.invariant-loop-due

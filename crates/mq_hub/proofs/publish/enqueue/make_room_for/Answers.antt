@@ -1,10 +1,11 @@
 use Rattle.std.proofs.Common.{◌≡◌, ◌∙◌, Option, IfSome, true, false, not, List, sym, ap, subst}
 use Rattle.std.specs.List.{AllByRecursion}
 use Rattle.mq_packet.specs.declared.message.Message.{Message}
-use Rattle.mq_hub.specs.declared.sessions.session.BrokerSession.{BrokerSession}
-use Rattle.mq_hub.specs.Inside.Placement.{MayGo}
-use Rattle.mq_hub.specs.Inside.Rules.{has_room}
-use Rattle.mq_hub.proofs.SessionRoom.{enough_own, few_own, fits_is, fits_own, ready_now, ready_same, ready_still}
+use Rattle.mq_tables.specs.declared.sessions.session.BrokerSession.{BrokerSession}
+use Rattle.mq_tables.specs.Publishing.{MayGo}
+use Rattle.mq_tables.specs.Rules.{has_room}
+use Rattle.mq_tables.proofs.SessionRoom.{fits_own, ready_now, ready_same, ready_still}
+use Rattle.mq_hub.proofs.SessionRoom.{enough_own, few_own, fits_is}
 use Rattle.mq_hub.proofs.MissedCopies.{lacks_own}
 use Rattle.mq_hub.proofs.publish.enqueue.make_room_for.Goals as goal
 

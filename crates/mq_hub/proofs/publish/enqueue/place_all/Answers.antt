@@ -1,7 +1,7 @@
 use Rattle.std.proofs.Common.{◌≡◌, ◌∙◌, [], ◌∷◌, ℕ, List, sym, ap, subst, arith}
 use Rattle.std.proofs.lemmas.List.{nil_from_length}
 use Rattle.mq_packet.specs.declared.message.Message.{Message}
-use Rattle.mq_hub.specs.declared.sessions.session.BrokerSession.{BrokerSession}
+use Rattle.mq_tables.specs.declared.sessions.session.BrokerSession.{BrokerSession}
 use Rattle.mq_hub.specs.Inside.Placement.{AreApart, AreReady, placed_all}
 use Rattle.mq_hub.proofs.PlacedCopies.{all_placeable, goes}
 use Rattle.mq_hub.proofs.SessionRoom.{placed_others}

@@ -2,8 +2,9 @@ use Rattle.std.proofs.Common.{◌≡◌, ◌∙◌, ◌∷◌, [], List, sym, ap
 use Rattle.std.proofs.lemmas.List.{nil_from_length}
 use Rattle.mq_packet.specs.declared.message.Message.{Message}
 use Rattle.mq_route.specs.Hub.{for_key}
-use Rattle.mq_hub.specs.Inside.Placement.{IsReadyAt, placed_all, placed_at}
-use Rattle.mq_hub.proofs.EndPublishes.{only_first}
+use Rattle.mq_tables.specs.Publishing.{IsReadyAt, placed_at}
+use Rattle.mq_tables.proofs.EndPublishes.{only_first}
+use Rattle.mq_hub.specs.Inside.Placement.{placed_all}
 use Rattle.mq_hub.proofs.PlacedCopies.{for_placeable, goes}
 use Rattle.mq_hub.proofs.publish.enqueue.place_for.Goals as goal
 

@@ -1,6 +1,7 @@
 use Rattle.std.proofs.Common.{◌≡◌}
 use Rattle.mq_route.specs.Hub.{for_key}
-use Rattle.mq_hub.specs.Inside.Placement.{IsReadyAt, placed_all}
+use Rattle.mq_tables.specs.Publishing.{IsReadyAt}
+use Rattle.mq_hub.specs.Inside.Placement.{placed_all}
 use Rattle.mq_hub.proofs.publish.enqueue.place_for.Given as goal
 
 abbrev pub invariant-loop-message : goal.invariant-loop-message

@@ -2,10 +2,10 @@ use Rattle.std.proofs.Common.{◌≡◌, ◌∙◌, Option, IfSome, sym, ap, sub
 use Rattle.std.specs.List.{AllByRecursion}
 use Rattle.mq_route.specs.Hub.{for_key}
 use Rattle.mq_route.specs.Work.{drops_copies}
-use Rattle.mq_hub.specs.declared.publish.rules.CopyRules.{CopyRules}
-use Rattle.mq_hub.specs.declared.sessions.session.BrokerSession.{BrokerSession}
-use Rattle.mq_hub.specs.Inside.Placement.{MayGo}
-use Rattle.mq_hub.specs.Inside.Rules.{has_room}
+use Rattle.mq_tables.specs.declared.rules.CopyRules.{CopyRules}
+use Rattle.mq_tables.specs.declared.sessions.session.BrokerSession.{BrokerSession}
+use Rattle.mq_tables.specs.Publishing.{MayGo}
+use Rattle.mq_tables.specs.Rules.{has_room}
 use Rattle.mq_hub.proofs.MissedCopies.{room_drops, room_own}
 use Rattle.mq_hub.proofs.SessionRoom.{fits_is}
 use Rattle.mq_hub.proofs.publish.settle.have_room_for.Goals as goal

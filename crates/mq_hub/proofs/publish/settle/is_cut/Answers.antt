@@ -1,7 +1,7 @@
 use Rattle.std.proofs.Common.{◌≡◌, ◌∙◌, ◌+◌, ℕ, Option, IfSome, length, sym, subst}
 use Rattle.mq_packet.specs.declared.message.Message.{Message}
-use Rattle.mq_hub.specs.declared.sessions.session.BrokerSession.{BrokerSession}
-use Rattle.mq_hub.specs.Inside.Rules.{left_of}
+use Rattle.mq_tables.specs.declared.sessions.session.BrokerSession.{BrokerSession}
+use Rattle.mq_tables.specs.Rules.{left_of}
 use Rattle.mq_hub.proofs.MissedCopies.{cut_identified, cut_is}
 use Rattle.mq_hub.proofs.publish.settle.is_cut.Goals as goal
 

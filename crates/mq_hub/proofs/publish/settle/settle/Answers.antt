@@ -3,9 +3,9 @@ use Rattle.std.proofs.lemmas.List.{nil_from_length}
 use Rattle.mq_packet.specs.declared.message.Message.{Message}
 use Rattle.mq_route.specs.declared.act.Act.TheVariants as acts
 use Rattle.mq_route.specs.Work.{all_fit, drops_copies}
-use Rattle.mq_hub.specs.declared.publish.rules.CopyRules.{CopyRules}
+use Rattle.mq_tables.specs.declared.rules.CopyRules.{CopyRules}
 use Rattle.mq_hub.specs.Inside.Placement.{AreApart, AreFor, misses}
-use Rattle.mq_hub.specs.Inside.Rules.{answer_for}
+use Rattle.mq_hub.specs.Inside.QueuedAnswer.{answer_for}
 use Rattle.mq_hub.proofs.MissedCopies.{acts_next, apart_later, apart_next, fitting, fitting_next, misses_same, not_true, room_all, room_lacks, settled_act, settles_apart}
 use Rattle.mq_hub.proofs.SessionRoom.{are_for_same, fit_none, has_same}
 use Rattle.mq_hub.proofs.publish.settle.settle.Goals as goal

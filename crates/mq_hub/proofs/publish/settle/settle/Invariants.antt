@@ -1,8 +1,10 @@
 use Rattle.std.proofs.Common.{◌≡◌, ◌+◌, ◌++◌, false, length, map}
 use Rattle.mq_route.specs.Hub.{HubState}
 use Rattle.mq_route.specs.Work.{all_fit, drops_copies}
-use Rattle.mq_hub.specs.Inside.Placement.{AreApart, AreFor, AreReady, AreSameButRoom, AreStillReady, HasSessions}
-use Rattle.mq_hub.specs.Inside.Rules.{answer_for, rules_of}
+use Rattle.mq_tables.specs.Publishing.{AreSameButRoom, AreStillReady}
+use Rattle.mq_tables.specs.Rules.{rules_of}
+use Rattle.mq_hub.specs.Inside.Placement.{AreApart, AreFor, AreReady, HasSessions}
+use Rattle.mq_hub.specs.Inside.QueuedAnswer.{answer_for}
 use Rattle.mq_hub.proofs.MissedCopies.{fitting, settled_act}
 use Rattle.mq_hub.proofs.publish.settle.settle.Given as goal
 

@@ -3,8 +3,9 @@ use Rattle.mq_packet.specs.declared.message.Message.{Message}
 use Rattle.mq_route.specs.declared.act.Act.TheVariants as acts
 use Rattle.mq_route.specs.Hub.{for_key}
 use Rattle.mq_route.specs.Work.{all_fit, drops_copies}
-use Rattle.mq_hub.specs.declared.publish.rules.CopyRules.{CopyRules}
-use Rattle.mq_hub.specs.Inside.Placement.{AreReady, IsFor, IsReadyAt, is_cut}
+use Rattle.mq_tables.specs.declared.rules.CopyRules.{CopyRules}
+use Rattle.mq_tables.specs.Publishing.{IsReadyAt}
+use Rattle.mq_hub.specs.Inside.Placement.{AreReady, IsFor, is_cut}
 use Rattle.mq_hub.proofs.DeliveryInvariant.{all_last}
 use Rattle.mq_hub.proofs.SessionRoom.{plain_fits, still_all}
 use Rattle.mq_hub.proofs.MissedCopies.{and_no, cut_plain, misses_cut, misses_here, settled_kept, settled_missed}

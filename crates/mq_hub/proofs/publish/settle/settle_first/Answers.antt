@@ -2,9 +2,10 @@ use Rattle.std.proofs.Common.{◌≡◌, ◌∙◌, Bool, List, Option, IfSome, 
 use Rattle.mq_packet.specs.declared.message.Message.{Message}
 use Rattle.mq_route.specs.Hub.{for_key}
 use Rattle.mq_route.specs.Work.{have_room}
-use Rattle.mq_hub.specs.declared.sessions.session.BrokerSession.{BrokerSession}
-use Rattle.mq_hub.specs.Inside.Placement.{IsFor, IsReadyAt, MayGo, first_fitting, fitting_acts}
-use Rattle.mq_hub.specs.Inside.Rules.{space_of}
+use Rattle.mq_tables.specs.declared.sessions.session.BrokerSession.{BrokerSession}
+use Rattle.mq_tables.specs.Publishing.{IsReadyAt, MayGo}
+use Rattle.mq_tables.specs.Rules.{space_of}
+use Rattle.mq_hub.specs.Inside.Placement.{IsFor, first_fitting, fitting_acts}
 use Rattle.mq_hub.proofs.MissedCopies.{acts_known, all_first, first_known}
 use Rattle.mq_hub.proofs.publish.settle.settle_first.Goals as goal
 

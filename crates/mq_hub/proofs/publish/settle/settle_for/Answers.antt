@@ -2,8 +2,9 @@ use Rattle.std.proofs.Common.{◌≡◌, ◌∙◌, ◌++◌, ◌&&◌, [], Bool
 use Rattle.mq_packet.specs.declared.message.Message.{Message}
 use Rattle.mq_route.specs.Hub.{for_key}
 use Rattle.mq_route.specs.Work.{all_fit, drops_copies}
-use Rattle.mq_hub.specs.declared.publish.rules.CopyRules.{CopyRules}
-use Rattle.mq_hub.specs.Inside.Placement.{IsFor, IsReadyAt, placed_acts}
+use Rattle.mq_tables.specs.declared.rules.CopyRules.{CopyRules}
+use Rattle.mq_tables.specs.Publishing.{IsReadyAt}
+use Rattle.mq_hub.specs.Inside.Placement.{IsFor, placed_acts}
 use Rattle.mq_hub.proofs.MissedCopies.{enough_for, room_closes, rules_keep, settled_all, settled_some}
 use Rattle.mq_hub.proofs.PlannedCopies.{if_ok}
 use Rattle.mq_hub.proofs.publish.settle.settle_for.Goals as goal

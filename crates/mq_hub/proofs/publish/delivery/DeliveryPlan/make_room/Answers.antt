@@ -1,9 +1,9 @@
 use Rattle.std.proofs.Common.{◌∙◌, ◌++◌, ℕ, List, sym, ap}
 use Rattle.mq_packet.specs.declared.message.Message.{Message}
 use Rattle.mq_route.specs.Work.{all_fit, drops_copies}
-use Rattle.mq_hub.specs.declared.publish.rules.CopyRules.{CopyRules}
+use Rattle.mq_tables.specs.declared.rules.CopyRules.{CopyRules}
 use Rattle.mq_hub.specs.Inside.Placement.{placed_acts}
-use Rattle.mq_hub.specs.Inside.Rules.{answer_for}
+use Rattle.mq_hub.specs.Inside.QueuedAnswer.{answer_for}
 use Rattle.mq_hub.proofs.MissedCopies.{room_closes, rules_keep, settles_all}
 use Rattle.mq_hub.proofs.PlannedCopies.{if_ok}
 use Rattle.mq_hub.proofs.publish.delivery.DeliveryPlan.make_room.Goals as goal

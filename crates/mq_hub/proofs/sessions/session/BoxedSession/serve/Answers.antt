@@ -1,8 +1,0 @@
-use Rattle.std.proofs.Common.{◌∙◌, subst}
-use Rattle.mq_hub.specs.declared.sessions.session.BrokerSession.{BrokerSession}
-use Rattle.mq_hub.specs.Inside.Calls.{Serves}
-use Rattle.mq_hub.proofs.sessions.session.BoxedSession.serve.Goals as goal
-
-pub returns-clause-end : goal.returns-clause-end
-returns-clause-end c =
-    subst (λ (t : BrokerSession). Serves c.args.call c.serve.result t.end c.serve.new.end) (c.deref_mut-session.ensures.value ∙ c.self.view_is) c.serve.ensures

@@ -1,0 +1,92 @@
+use Rattle.std.proofs.Common.{◌∙◌, List, [], eqb, refl, sym, ap, subst}
+use Rattle.std.specs.HashMap.{get, hash_map_len}
+use Rattle.mq_route.specs.declared.connection_state.ConnectionState.TheVariants.{Closed}
+use Rattle.mq_route.specs.Hub.{HubConnection, key_on, stage_of, with_connection}
+use Rattle.mq_tables.specs.Connections.{service, ConnectionList, connections_of, AreConnections}
+use Rattle.mq_tables.proofs.RingTimes.{never_late}
+use Rattle.mq_tables.proofs.PendingBytes.{empty_decoding}
+use Rattle.mq_tables.proofs.ConnectionTable.{Entry, are_named, found_by, lacks, unknown_shut, still_all, changed, served_at, kept_same, kept_shut, is_found}
+use Rattle.mq_tables.proofs.connections.table.Connections.shut.Goals as goal
+
+pub returns-in_default-clause-connections : goal.returns-in_default-clause-connections
+returns-in_default-clause-connections c =
+    let es = c.self.inside.by_conn.entries in
+    let f : HubConnection → HubConnection = λ x. record x { stage = Closed; held = [] } in
+    ap (λ m. connections_of m.entries) c.get_mut.follows.holds-at-none
+    ∙ still_all f c.args.conn es (are_named (service c.self.inside.limits c.self.inside.alarms) es c.self.invariant.served) c.in_default.ensures.value
+    ∙ ap (λ (v : ConnectionList). with_connection f c.args.conn v.connections) c.self.view_is
+
+pub remove_connected-requires : goal.remove_connected-requires
+remove_connected-requires c =
+    let ups = c.self.inside.ups in
+    is_found (service c.self.inside.limits c.self.inside.alarms) c.args.conn c.in-Some-up.key c.self.inside.by_conn.entries c.in-Some.boxed.now (get eqb ups) (hash_map_len ups) c.self.invariant
+    (sym c.in-Some.ensures.value) (sym c.key-up.ensures ∙ c.in-Some-up.is)
+
+pub invariant_of-self-in-Some-up : goal.invariant_of-self-in-Some-up
+invariant_of-self-in-Some-up c =
+    let by = service c.self.inside.limits c.self.inside.alarms in
+    let k = c.args.conn in
+    let es = c.self.inside.by_conn.entries in
+    let ups = c.self.inside.ups in
+    let new = c.remove_connected.new.ups in
+    let own = c.in-Some.boxed.now in
+    let w = c.shut-stage.new.self in
+    let there = sym c.in-Some.ensures.value in
+    let read = served_at by k es own c.self.invariant.served there in
+    subst (λ (rs : List Entry). AreConnections by rs (get eqb new) (hash_map_len new)) (sym (c.get_mut.follows.holds w).0)
+    (kept_shut by k c.in-Some-up.key es own w (get eqb ups) (get eqb new) (hash_map_len ups) (hash_map_len new) c.self.invariant there
+    (ap (λ (x : HubConnection). x.conn) c.shut-stage.ensures.line) (empty_decoding by.bounds w.decoder (c.shut-stage.ensures.limit ∙ read.0.0) c.shut-stage.ensures.failed (ap (λ (x : HubConnection). x.held) c.shut-stage.ensures.line), never_late by.within by.alarms w.conn w.since w.stage Closed (ap (λ (x : HubConnection). x.stage) c.shut-stage.ensures.line) (λ now. refl))
+    (sym c.key-up.ensures ∙ c.in-Some-up.is) (ap (λ (x : HubConnection). key_on x.stage) c.shut-stage.ensures.line) c.remove_connected.ensures.found c.remove_connected.ensures.len)
+
+pub invariant_of-self-in_default-up : goal.invariant_of-self-in_default-up
+invariant_of-self-in_default-up c =
+    let by = service c.self.inside.limits c.self.inside.alarms in
+    let k = c.args.conn in
+    let es = c.self.inside.by_conn.entries in
+    let ups = c.self.inside.ups in
+    let own = c.in-Some.boxed.now in
+    let w = c.shut-stage.new.self in
+    let there = sym c.in-Some.ensures.value in
+    let read = served_at by k es own c.self.invariant.served there in
+    subst (λ (rs : List Entry). AreConnections by rs (get eqb ups) (hash_map_len ups)) (sym (c.get_mut.follows.holds w).0)
+    (kept_same by k es own w (get eqb ups) (hash_map_len ups) c.self.invariant there (ap (λ (x : HubConnection). x.conn) c.shut-stage.ensures.line)
+    (empty_decoding by.bounds w.decoder (c.shut-stage.ensures.limit ∙ read.0.0) c.shut-stage.ensures.failed (ap (λ (x : HubConnection). x.held) c.shut-stage.ensures.line), never_late by.within by.alarms w.conn w.since w.stage Closed (ap (λ (x : HubConnection). x.stage) c.shut-stage.ensures.line) (λ now. refl))
+    (ap (λ (x : HubConnection). key_on x.stage) c.shut-stage.ensures.line ∙ sym c.in_default-up.is ∙ c.key-up.ensures))
+
+pub returns-in-Some-up-clause-connections : goal.returns-in-Some-up-clause-connections
+returns-in-Some-up-clause-connections c =
+    let es = c.self.inside.by_conn.entries in
+    let f : HubConnection → HubConnection = λ x. record x { stage = Closed; held = [] } in
+    let w = c.shut-stage.new.self in
+    ap connections_of (c.get_mut.follows.holds w).0
+    ∙ changed f c.args.conn es c.in-Some.boxed.now w (are_named (service c.self.inside.limits c.self.inside.alarms) es c.self.invariant.served) c.self.invariant.distinct (sym c.in-Some.ensures.value) c.shut-stage.ensures.line
+    ∙ ap (λ (v : ConnectionList). with_connection f c.args.conn v.connections) c.self.view_is
+
+pub returns-in_default-up-clause-connections : goal.returns-in_default-up-clause-connections
+returns-in_default-up-clause-connections c =
+    let es = c.self.inside.by_conn.entries in
+    let f : HubConnection → HubConnection = λ x. record x { stage = Closed; held = [] } in
+    let w = c.shut-stage.new.self in
+    ap connections_of (c.get_mut.follows.holds w).0
+    ∙ changed f c.args.conn es c.in-Some.boxed.now w (are_named (service c.self.inside.limits c.self.inside.alarms) es c.self.invariant.served) c.self.invariant.distinct (sym c.in-Some.ensures.value) c.shut-stage.ensures.line
+    ∙ ap (λ (v : ConnectionList). with_connection f c.args.conn v.connections) c.self.view_is
+
+pub returns-in_default-clause-stage : goal.returns-in_default-clause-stage
+returns-in_default-clause-stage c =
+    let es = c.self.inside.by_conn.entries in
+    sym (unknown_shut c.args.conn (connections_of es) (lacks c.args.conn es (are_named (service c.self.inside.limits c.self.inside.alarms) es c.self.invariant.served) c.in_default.ensures.value))
+    ∙ ap (λ (v : ConnectionList). stage_of c.args.conn v.connections) c.self.view_is
+
+pub returns-in-Some-up-clause-stage : goal.returns-in-Some-up-clause-stage
+returns-in-Some-up-clause-stage c =
+    let es = c.self.inside.by_conn.entries in
+    c.shut-stage.ensures.stage
+    ∙ sym (found_by (λ (x : HubConnection). x.stage) c.args.conn (stage_of c.args.conn) (λ x xs. refl) es c.in-Some.boxed.now (are_named (service c.self.inside.limits c.self.inside.alarms) es c.self.invariant.served) (sym c.in-Some.ensures.value))
+    ∙ ap (λ (v : ConnectionList). stage_of c.args.conn v.connections) c.self.view_is
+
+pub returns-in_default-up-clause-stage : goal.returns-in_default-up-clause-stage
+returns-in_default-up-clause-stage c =
+    let es = c.self.inside.by_conn.entries in
+    c.shut-stage.ensures.stage
+    ∙ sym (found_by (λ (x : HubConnection). x.stage) c.args.conn (stage_of c.args.conn) (λ x xs. refl) es c.in-Some.boxed.now (are_named (service c.self.inside.limits c.self.inside.alarms) es c.self.invariant.served) (sym c.in-Some.ensures.value))
+    ∙ ap (λ (v : ConnectionList). stage_of c.args.conn v.connections) c.self.view_is

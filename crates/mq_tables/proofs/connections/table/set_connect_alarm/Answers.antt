@@ -1,0 +1,12 @@
+use Rattle.std.proofs.Common.{ap, subst}
+use Rattle.mq_route.specs.declared.conn.Conn.{Conn}
+use Rattle.mq_tables.specs.declared.connections.connection.Connection.{Connection}
+use Rattle.mq_tables.specs.Alarms.{IsAwaited}
+use Rattle.mq_tables.proofs.RingTimes.{alarm_awaited}
+use Rattle.mq_tables.proofs.connections.table.set_connect_alarm.Goals as goal
+
+pub returns-then-is_some-clause-awaited : goal.returns-then-is_some-clause-awaited
+returns-then-is_some-clause-awaited c =
+    let own = c.args.boxed.now in
+    subst (λ (k : Conn). IsAwaited c.args.within c.set.new.self k own.since own.stage) (ap (λ (x : Connection). x.conn) c.connection.ensures)
+    (alarm_awaited c.args.within c.set.new.self c.connection.result.now.conn c.last_in_time.result own.since own.stage c.set.ensures.rings c.last_in_time.ensures)

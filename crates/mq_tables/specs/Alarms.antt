@@ -1,0 +1,56 @@
+-- When connections may be late (3.1, 3.1.2.10).
+use Rattle.std.specs.Prelude.{ℕ, Bool, false, Option, List, ◌≡◌, ◌≤◌, ◌||◌, [], ◌∷◌}
+use Rattle.std.specs.declared.cmp.Reverse.{Reverse}
+use Rattle.std.specs.Ordering.{nat_cmp, ordering_then}
+use Rattle.std.specs.declared.cmp.Ordering.{Ordering}
+use Rattle.std.specs.List.{All, AllByRecursion}
+use Rattle.mq_end.specs.KeepAlive.{is_late}
+use Rattle.mq_route.specs.declared.connection_state.ConnectionState.{ConnectionState}
+use Rattle.mq_route.specs.declared.connection_state.ConnectionState.TheVariants.{AwaitingConnect, ConnectedAs, Closed}
+use Rattle.mq_route.specs.Step.{has_passed}
+use Rattle.mq_route.specs.declared.conn.Conn.{Conn}
+use Rattle.mq_route.specs.Routed.{same_conn}
+use Rattle.mq_tables.specs.declared.alarms.Alarm.{Alarm}
+use Rattle.mq_tables.specs.declared.connections.connection.Connection.{Connection}
+
+-- a connection that was opened at this time is late: a tick closes it
+abbrev pub is_late_on : Option ℕ → ℕ → ℕ → ConnectionState → Bool
+is_late_on within now since AwaitingConnect = has_passed within since now
+is_late_on within now since (ConnectedAs key terms last_activity) = is_late last_activity terms.keep_alive now
+is_late_on within now since Closed = false
+
+-- Alarms: each says up to which time the connection that it names is not late. After `until` any
+-- connection may be late.
+pub record AlarmTable : Type 0 where
+  pub until : ℕ
+  pub alarms : List (Reverse Alarm)
+
+-- their order: the earliest first; at the same time, by connection
+abbrev pub soonest_first : Reverse Alarm → Reverse Alarm → Ordering
+soonest_first x y =
+    ordering_then (nat_cmp y.0.until x.0.until) (ordering_then (nat_cmp y.0.conn.worker x.0.conn.worker) (nat_cmp y.0.conn.nth x.0.conn.nth))
+
+-- no alarm of this connection rings before this time
+abbrev pub IsQuiet : AlarmTable → Conn → ℕ → Type 0
+IsQuiet a k now = (now ≤ a.until) × All (λ r. r.0.conn ≡ k → now ≤ r.0.until) a.alarms
+
+-- before one of its alarms rings, a connection that was opened at this time is not late
+abbrev pub IsAwaited : Option ℕ → AlarmTable → Conn → ℕ → ConnectionState → Type 0
+IsAwaited within a k since s = (now : ℕ) → IsQuiet a k now → is_late_on within now since s ≡ false
+
+-- every alarm of the first table that rings by some time makes the second table ring by then
+abbrev pub RingsWith : AlarmTable → AlarmTable → Type 0
+RingsWith a b = (k : Conn) (now : ℕ) → IsQuiet b k now → IsQuiet a k now
+
+-- this connection is one of these
+abbrev pub is_named : Conn → List Conn → Bool
+is_named k [] = false
+is_named k (n ∷ ns) = same_conn k n || is_named k ns
+
+-- each of these connections is not late before an alarm of its rings
+abbrev pub AreAwaited : Option ℕ → AlarmTable → List (Conn × Connection) → Type 0
+AreAwaited within a = AllByRecursion (λ e. IsAwaited within a e.1.conn e.1.since e.1.stage)
+
+-- the same, except for the connections with these names
+abbrev pub AreAwaitedBut : Option ℕ → List Conn → AlarmTable → List (Conn × Connection) → Type 0
+AreAwaitedBut within names a = AllByRecursion (λ e. is_named e.1.conn names ≡ false → IsAwaited within a e.1.conn e.1.since e.1.stage)

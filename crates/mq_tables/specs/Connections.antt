@@ -1,0 +1,111 @@
+-- The table of connections (4.2).
+use Rattle.std.specs.Prelude.{ℕ, List, map, ◌≡◌, slice_get, true, Some, None, Option, ◌≤◌, false, ◌==◌, Bool, [], ◌∷◌, if◌then◌else◌, is_some}
+use Rattle.std.specs.List.{AllByRecursion, IsDistinct, count_by}
+use Rattle.std.specs.Map.{keys_of}
+use Rattle.mq_decode.specs.Grammar.{Pending}
+use Rattle.mq_decode.specs.Limits.{Bounds}
+use Rattle.mq_decode.specs.State.{State}
+use Rattle.mq_route.specs.Hub.{HubConnection, key_on}
+use Rattle.mq_route.specs.declared.conn.Conn.{Conn}
+use Rattle.mq_route.specs.Routed.{same_conn}
+use Rattle.mq_route.specs.declared.connection_state.ConnectionState.{ConnectionState}
+use Rattle.mq_route.specs.declared.connection_state.ConnectionState.TheVariants.{Closed, ConnectedAs}
+use Rattle.mq_route.specs.Arrives.{touched}
+use Rattle.mq_route.specs.declared.connection_state.ConnectionTerms.{ConnectionTerms}
+use Rattle.mq_tables.specs.declared.connections.table.ConnectionLimits.{ConnectionLimits}
+use Rattle.mq_tables.specs.declared.connections.connection.Connection.{Connection}
+use Rattle.mq_tables.specs.Alarms.{AlarmTable, is_late_on, IsAwaited}
+
+-- The connections in the order in which they were opened, and their limits. Then: for how many more
+-- there is room, how many more may become connected, and how many alarms there are.
+pub record ConnectionList : Type 0 where
+  pub connections : List HubConnection
+  pub limits : ConnectionLimits
+  pub room : ℕ
+  pub up_room : ℕ
+  pub alarms : ℕ
+
+-- a connection as the broker's definition sees it
+abbrev pub connection_of : Connection → HubConnection
+connection_of c = record { conn = c.conn; stage = c.stage; held = c.decoder.held; waiting = c.waiting; since = c.since }
+
+abbrev pub connections_of : List (Conn × Connection) → List HubConnection
+connections_of es = map (λ e. connection_of e.1) es
+
+-- the connection at this index has this name
+abbrev pub IsNamedAt : Conn → ℕ → List (Conn × Connection) → Type 0
+IsNamedAt k n es = (e : Conn × Connection) × (slice_get es n ≡ Some e) × (same_conn k e.0 ≡ true)
+
+-- a decoder has these limits, met no error, and holds no whole packet
+abbrev pub IsDecoding : Bounds → State → Type 0
+IsDecoding limits d = (d.limit ≡ limits) × (d.failed ≡ None) × Pending limits d.held
+
+-- so does the decoder of a connection
+abbrev pub IsReading : Bounds → Connection → Type 0
+IsReading limits c = IsDecoding limits c.decoder
+
+-- How connections are served: the limits of their packets, the time within which each must send
+-- CONNECT, and the alarms.
+pub record Service : Type 0 where
+  pub bounds : Bounds
+  pub within : Option ℕ
+  pub alarms : AlarmTable
+
+abbrev pub service : ConnectionLimits → AlarmTable → Service
+service limits alarms = record { bounds = limits.packets; within = limits.connect_within; alarms = alarms }
+
+-- it is not late up to this time (3.1, 3.1.2.10)
+abbrev pub IsTimely : Option ℕ → ℕ → ℕ → ConnectionState → Type 0
+IsTimely within due since s = (now : ℕ) → now ≤ due → is_late_on within now since s ≡ false
+
+-- a connection is served in this way
+abbrev pub IsServedBy : Service → Connection → Type 0
+IsServedBy by c = IsReading by.bounds c × IsAwaited by.within by.alarms c.conn c.since c.stage
+
+-- and is stored under its name
+abbrev pub IsServed : Service → Conn × Connection → Type 0
+IsServed by e = (e.0 ≡ e.1.conn) × IsServedBy by e.1
+
+-- each connection, with the key of the session for which it is connected
+abbrev pub ups_of : List (Conn × Connection) → List (Conn × Option ℕ)
+ups_of es = map (λ e. (e.1.conn, key_on e.1.stage)) es
+
+abbrev pub has_key : ℕ → Option ℕ → Bool
+has_key key None = false
+has_key key (Some other) = other == key
+
+-- the first connection that is connected for a key
+abbrev pub up_in : ℕ → List (Conn × Option ℕ) → Option Conn
+up_in key [] = None
+up_in key (u ∷ us) = if has_key key u.1 then Some u.0 else up_in key us
+
+-- no two are connected for one key
+abbrev pub AreUpOnce : List (Conn × Option ℕ) → Type 0
+AreUpOnce [] = Unit {0}
+AreUpOnce (u ∷ us) = ((key : ℕ) → u.1 ≡ Some key → up_in key us ≡ None) × AreUpOnce us
+
+-- The invariant of the table: each connection is stored under its name, once. No two are connected
+-- for one client, `find` returns that connection, and `count` is the number of those that are
+-- connected.
+pub record AreConnections (by : Service) (es : List (Conn × Connection)) (find : ℕ → Option Conn) (count : ℕ) : Type 0 where
+  pub served : AllByRecursion (IsServed by) es
+  pub distinct : IsDistinct same_conn (keys_of es)
+  pub singly : AreUpOnce (ups_of es)
+  pub found : (key : ℕ) → find key ≡ up_in key (ups_of es)
+  pub counted : count ≡ count_by (λ u. is_some u.1) (ups_of es)
+
+-- a closed connection with this pending output
+abbrev pub left_with : List ℕ → HubConnection → HubConnection
+left_with b x = record x { stage = Closed; held = []; waiting = b }
+
+-- a connection that holds these bytes of an incomplete packet
+abbrev pub holds : List ℕ → HubConnection → HubConnection
+holds b x = record x { held = b }
+
+-- a connection whose last packet came at this time
+abbrev pub touched_at : ℕ → HubConnection → HubConnection
+touched_at now x = record x { stage = touched now x.stage }
+
+-- a connection whose client is connected for the session of a key
+abbrev pub connected_for : ℕ → ConnectionTerms → ℕ → HubConnection → HubConnection
+connected_for key terms last_activity x = record x { stage = ConnectedAs key terms last_activity }

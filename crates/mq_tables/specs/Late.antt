@@ -1,0 +1,23 @@
+-- Late connections, by index and by name (3.1, 3.1.2.10).
+use Rattle.std.specs.Prelude.{◌≡◌, ℕ, false, List, Option, true, slice_get, Some}
+use Rattle.std.specs.List.{AllByRecursion, Contains}
+use Rattle.mq_route.specs.Hub.{HubConnection}
+use Rattle.mq_route.specs.declared.conn.Conn.{Conn}
+use Rattle.mq_tables.specs.Alarms.{is_late_on, is_named}
+
+-- no connection is late at this time
+abbrev pub AreInTime : Option ℕ → ℕ → List HubConnection → Type 0
+AreInTime within now = AllByRecursion (λ x. is_late_on within now x.since x.stage ≡ false)
+
+-- the index of each late connection is among these
+abbrev pub HasLate : Option ℕ → ℕ → List HubConnection → List ℕ → Type 0
+HasLate within now xs places = (i : ℕ) (x : HubConnection) → slice_get xs i ≡ Some x → is_late_on within now x.since x.stage ≡ true → Contains places i
+
+-- the name of each late connection is among these
+abbrev pub HasLateNamed : Option ℕ → ℕ → List HubConnection → List Conn → Type 0
+HasLateNamed within now xs names = (i : ℕ) (x : HubConnection) → slice_get xs i ≡ Some x → is_late_on within now x.since x.stage ≡ true → is_named x.conn names ≡ true
+
+-- the index of each late connection is among these, except for those with these names
+abbrev pub HasLateBut : Option ℕ → ℕ → List HubConnection → List Conn → List ℕ → Type 0
+HasLateBut within now xs names places =
+    (i : ℕ) (x : HubConnection) → slice_get xs i ≡ Some x → is_late_on within now x.since x.stage ≡ true → is_named x.conn names ≡ false → Contains places i

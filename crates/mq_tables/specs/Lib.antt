@@ -1,0 +1,14 @@
+pub mod Alarms
+pub mod Calls
+pub mod Connecting
+pub mod Connections
+pub mod Expiry
+pub mod Late
+pub mod Numbers
+pub mod Output
+pub mod Publishing
+pub mod Retained
+pub mod Rules
+pub mod Sessions
+pub mod Subscriptions
+pub mod Tables

@@ -1,0 +1,11 @@
+-- The number of messages that the end of a session stores.
+use Rattle.std.specs.Prelude.{ℕ, length, if◌then◌else◌, List, sum_by}
+use Rattle.mq_end.specs.State.{EndState}
+use Rattle.mq_tables.specs.declared.sessions.session.BrokerSession.{BrokerSession}
+
+-- 0 if it has no session
+abbrev pub stored_at : EndState → ℕ
+stored_at e = if e.end.known then length e.end.book.entries else 0
+
+abbrev pub all_stored : List BrokerSession → ℕ
+all_stored ts = sum_by (λ t. stored_at t.end) ts

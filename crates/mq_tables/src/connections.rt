@@ -1,0 +1,4 @@
+//! The table of connections (4.2).
+
+pub(crate) mod connection;
+pub(crate) mod table;
