@@ -1,5 +1,5 @@
 -- A packet of a connected client, by its type.
-use Rattle.std.proofs.Common.{◌≡◌, ℕ, ◌≤◌, true, List, length, Some, refl, subst, arith}
+use Rattle.std.proofs.Common.{◌≡◌, ℕ, ◌≤◌, Bool, true, List, length, Option, Some, None, Result, OnOk, refl, sym, subst, arith}
 use Rattle.std.specs.Option.{is_some}
 use Rattle.mq_packet.specs.declared.packet.Packet.{Packet}
 use Rattle.mq_packet.specs.declared.packet.Packet.TheVariants as packets
@@ -8,10 +8,15 @@ use Rattle.mq_packet.specs.Publication.{Publication, fits_delivery}
 use Rattle.mq_packet.specs.Encoding.{fields}
 use Rattle.mq_end.specs.SizeLaws.{SizeLaws}
 use Rattle.mq_end.specs.Sizes.{publish_size, subscribe_size, unsuback_size, unsubscribe_size}
+use Rattle.mq_route.specs.declared.act.Act.{Act}
 use Rattle.mq_route.specs.declared.conn.Conn.{Conn}
-use Rattle.mq_route.specs.Hub.{HubConnection, key_on, stage_of, up_on}
+use Rattle.mq_route.specs.declared.connection_state.ConnectionState.{ConnectionState}
+use Rattle.mq_route.specs.Arrives.{dispatch_packet, on_connected_packet}
+use Rattle.mq_route.specs.Hub.{HubConnection, HubState, key_on, stage_of, up_on}
+use Rattle.mq_hub.specs.Inside.Refinement.{Refines}
 use Rattle.mq_hub.specs.Inside.Requests.{RequestsNothing}
 use Rattle.mq_hub.proofs.ConnectionChange.{up_there}
+use Rattle.mq_hub.proofs.LastActivity.{comes_up, on_ok}
 use Rattle.mq_hub.proofs.TakenOutput.{is_up_for}
 
 -- the client of a connected connection is connected
@@ -42,3 +47,15 @@ module _ (sizes : SizeLaws) (most : ℕ) (p : Packet) (within : length (fields p
   unsuback_within i fs is =
       let all : unsubscribe_size fs ≤ most = subst (λ (n : ℕ). n ≤ most) (sizes.unsubscribe i fs) (as_is (packets.Unsubscribe i fs) is) in
       omega (arith, all)
+
+-- a packet of a connected client is that of its connection
+pub dispatched : {X E : Type 0} (r : Result X E) (k : Conn) (key : ℕ) (p q : Packet) (s : ConnectionState) (old new : HubState) (did says : List Act) → key_on s ≡ Some key → p ≡ q
+    → OnOk r ((fits : Bool) × Refines (on_connected_packet k key q fits) old did new says)
+    → OnOk r ((fits : Bool) × Refines (dispatch_packet k p fits s) old did new says)
+dispatched r k key p q s old new did says on is goes =
+    on_ok r (λ g. (g.0, comes_up k p g.0 key s old new did says on (subst (λ (x : Packet). Refines (on_connected_packet k key x g.0) old did new says) (sym is) g.1))) goes
+
+-- an option without a value
+pub none_of : {X : Type 0} (o : Option X) → ((x : X) → o ≡ Some x → ⊥) → o ≡ None
+none_of None never = refl
+none_of (Some x) never = absurd (never x refl)

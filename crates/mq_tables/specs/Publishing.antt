@@ -1,5 +1,5 @@
 -- Room for messages in the ends of sessions, and publishing them (3.3.5, 3.8.4).
-use Rattle.std.specs.Prelude.{◌≡◌, ◌≤◌, true, false, ℕ, List, None, Some, ⊤, IfSome, IfNone, Result, Err, OnOk, IfErr, map, ◌+◌, ◌++◌, ◌==◌, if◌then◌else◌}
+use Rattle.std.specs.Prelude.{◌≡◌, ◌≤◌, true, false, ℕ, List, None, Some, ⊤, IfSome, IfNone, Result, Err, OnOk, IfErr, map, ◌++◌, ◌==◌, if◌then◌else◌}
 use Rattle.mq_packet.specs.declared.message.Message.{Message}
 use Rattle.mq_packet.specs.Encoding.{encodings}
 use Rattle.mq_end.specs.Both.{has_identifier}

@@ -1,9 +1,9 @@
-//! Handles a packet of a connected client by its type (3.3 to 3.14, 4.8).
+//! Handles a packet of an open connection by its type (3.1 to 3.14, 4.8).
 
-ghost use Rattle.std.specs.Prelude.{◌≡◌, ◌≤◌, Bool, true, length, Some, OnOk, OnErr};
+ghost use Rattle.std.specs.Prelude.{◌≡◌, ◌≤◌, Bool, true, length, IfSome, OnOk, OnErr};
 ghost use Rattle.mq_end.specs.End.{is_up};
 ghost use Rattle.mq_packet.specs.Encoding.{fields};
-ghost use Rattle.mq_route.specs.Arrives.{on_connected_packet};
+ghost use Rattle.mq_route.specs.Arrives.{dispatch_packet};
 ghost use Rattle.mq_route.specs.Hub.{end_of, is_open, key_on, stage_of};
 ghost use Rattle.mq_hub.specs.Inside.Refinement.{Refines};
 
@@ -16,25 +16,31 @@ use mq_topic::{ClientKey, FilterStore};
 use std::alloc::AllocError;
 
 impl<S: FilterStore> HubOver<S> {
-    /// Handles a packet of a connected client (3.3 to 3.14, 4.8).
+    /// Handles a packet of an open connection. `up` must be the key of the session for which it is
+    /// connected; if `None`, the packet must be CONNECT (3.1).
     #[inline(always)]
-    pub(crate) fn on_connected_packet(
+    pub(crate) fn dispatch_packet(
         &mut self,
         conn: Conn,
-        key: ClientKey,
+        up: Option<ClientKey>,
         packet: Packet,
         log: &mut ActLog,
     ) -> Result<(), AllocError>
-        requires up { key_on (stage_of conn self.old.connections) ≡ Some key }
-        requires end { is_up (end_of key self.old.sessions).state ≡ true }
+        requires open { is_open (stage_of conn self.old.connections) ≡ true }
+        requires key { key_on (stage_of conn self.old.connections) ≡ up }
+        requires end { IfSome up (λ key. is_up (end_of key self.old.sessions).state ≡ true) }
         requires within { length (fields packet) ≤ self.old.config.limits.most }
         requires room { 3 ≤ log.old.room }
-        ensures goes { OnOk result ((fits : Bool) × Refines (on_connected_packet conn key packet fits) self.old log.old.acts self.new log.new.acts) }
+        ensures goes { OnOk result ((fits : Bool)
+            × Refines (dispatch_packet conn packet fits (stage_of conn self.old.connections)) self.old log.old.acts self.new log.new.acts) }
         ensures room { OnOk result (is_open (stage_of conn self.new.connections) ≡ true → 3 ≤ log.new.room) }
         ensures err { OnErr result (self.new ≡ self.old) }
         ensures err_acts { OnErr result (log.new.acts ≡ log.old.acts) }
         ensures err_room { OnErr result (3 ≤ log.new.room) }
     {
+        let Some(key) = up else {
+            return self.on_first_packet(conn, packet, log);
+        };
         size_laws();
         match packet {
             Packet::Publish(publish) => {

@@ -81,19 +81,18 @@ impl<S: FilterStore> HubOver<S> {
         let mut used = 0;
         while self.is_open_near(conn, place) {
             let (_, rest) = piece.split_at(used);
-            match self.on_next_packet(conn, place, decoder, rest, log) {
-                Next::Packet(count) => {
-                    used += count;
-                    if log.count() >= most_acts {
-                        self.put_back(conn, place, decoder);
-                        return used;
-                    }
-                }
+            let count = match self.on_next_packet(conn, place, decoder, rest, log) {
+                Next::Packet(count) => count,
                 Next::Waits => {
                     self.swap_decoder(conn, decoder);
                     return piece.len();
                 }
                 Next::Closed => return piece.len(),
+            };
+            used += count;
+            if log.count() >= most_acts {
+                self.put_back(conn, place, decoder);
+                return used;
             }
         }
         piece.len()

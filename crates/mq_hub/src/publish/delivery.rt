@@ -1,26 +1,19 @@
-//! Retains a message and places its copies for the subscribers (3.3.1.3, 3.3.5).
+//! The plan of a delivery: the message to retain and the copies to place (3.3.1.3, 3.3.5).
 
-ghost use Rattle.std.specs.Prelude.{◌≡◌, ◌+◌, ◌≤◌, ◌<◌, ◌++◌, [], ℕ, length, true, IfOk, IfSome, Ok};
-ghost use Rattle.mq_packet.specs.declared.message.Message.{Message};
-ghost use Rattle.mq_route.specs.declared.config.HubConfig.{HubConfig};
-ghost use Rattle.mq_route.specs.Copies.{kept};
-ghost use Rattle.mq_route.specs.Hub.{HubState, copies_of};
-ghost use Rattle.mq_route.specs.Work.{deliver, have_room};
+ghost use Rattle.std.specs.Prelude.{◌≡◌, ◌+◌, ◌≤◌, ◌++◌, [], length, true, IfOk, Ok};
+ghost use Rattle.mq_route.specs.Hub.{HubState};
+ghost use Rattle.mq_route.specs.Work.{have_room};
 ghost use Rattle.mq_tables.specs.Publishing.{AreSameButRoom, AreStillReady};
-ghost use Rattle.mq_tables.specs.Retained.{IsKeptOf};
 ghost use Rattle.mq_tables.specs.Rules.{rules_of};
-ghost use Rattle.mq_tables.specs.Tables.{HubTables};
-ghost use Rattle.mq_hub.specs.Inside.Refinement.{Refines};
-ghost use Rattle.mq_hub.specs.Inside.Placement.{placed_all, with_retained, with_list, AreApart, AreFor, AreReady, CanPlace, HasSessions, Settles};
+ghost use Rattle.mq_hub.specs.Inside.Placement.{AreApart, AreFor, AreReady, HasSessions, Settles};
 ghost use Rattle.mq_hub.specs.Inside.QueuedAnswer.{answer_for};
-ghost use Rattle.mq_hub.specs.Inside.View.{hub_of};
 
 use crate::acts::ActLog;
-use crate::publish::enqueue::{PlannedCopy, make_room, place_all, push_placed};
+use crate::publish::enqueue::{PlannedCopy, make_room, push_placed};
 use crate::publish::queued_answer::QueuedAnswer;
 use crate::publish::settle::{SettledCopies, settle};
 use mq_route::Act;
-use mq_tables::{CopyRules, Retained, RetainedEntry, Sessions};
+use mq_tables::{CopyRules, RetainedEntry, Sessions};
 use std::alloc::{AllocError, Global};
 use std::mem;
 
@@ -88,37 +81,5 @@ impl DeliveryPlan {
             }
             None => Ok(false),
         }
-    }
-
-    /// Retains the message (3.3.1.3) and places its copies (3.3.5), after an act that reports the
-    /// message as taken or as a will.
-    #[inline(always)]
-    pub(crate) fn deliver_copies(
-        self,
-        act: Act,
-        retained: &mut Retained,
-        sessions: &mut Sessions,
-        log: &mut ActLog,
-    )
-        requires named { IfSome self.kept (λ named. named.0 ≡ named.1.topic) }
-        requires retained { 0 < retained.old.room }
-        requires apart { AreApart self.copies.items }
-        requires ready { AreReady 0 sessions.old.list self.copies.items }
-        requires room { length self.acts.items < log.old.room }
-        ensures goes { (m : Message) (config : HubConfig) (clock : ℕ) (next_key : ℕ) (t : HubTables) → IsKeptOf m self.kept
-            → t.sessions.list ≡ sessions.old.list → t.retained.messages ≡ retained.old.messages → CanPlace t
-            → Settles config (λ k. 0) sessions.old.list (copies_of m (hub_of config clock next_key t)) self.copies.items self.acts.items
-            → Refines (deliver act m) (hub_of config clock next_key t) log.old.acts
-            (hub_of config clock next_key (with_list sessions.new.list (with_retained retained.new.messages t))) log.new.acts }
-        ensures retained { (m : Message) → IsKeptOf m self.kept → retained.new.messages ≡ kept m retained.old.messages }
-        ensures list { sessions.new.list ≡ placed_all self.copies.items sessions.old.list }
-        ensures room { sessions.new.room ≡ sessions.old.room }
-        ensures left { log.old.room ≤ log.new.room + length self.acts.items + 1 }
-    {
-        let DeliveryPlan { kept, copies, acts } = self;
-        retained.retain_planned(kept);
-        log.push(act);
-        push_all(log, acts);
-        place_all(sessions, copies);
     }
 }

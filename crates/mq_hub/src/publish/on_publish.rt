@@ -77,34 +77,6 @@ impl<S: FilterStore> HubOver<S> {
         Ok(true)
     }
 
-    // Takes a PUBLISH whose message is new. If a session has no room for its copy (2.3.1), the copy
-    // is missed, or the connection is closed, as the configuration says.
-    #[inline(always)]
-    fn take_handed(
-        &mut self,
-        conn: Conn,
-        key: ClientKey,
-        publish: Publish,
-        log: &mut ActLog,
-    ) -> Result<(), AllocError>
-        requires up { is_some (up_on key self.old.connections) ≡ true }
-        requires handed { IsReceived Reception.Handed publish (end_of key self.old.sessions) }
-        requires within { publish_size publish.message ≤ self.old.config.limits.most }
-        requires room { 3 ≤ log.old.room }
-        ensures goes { OnOk result ((fits : Bool)
-            × Refines (on_connected_packet conn key (packets.Publish publish) fits) self.old log.old.acts self.new log.new.acts) }
-        ensures room { OnOk result (is_open (stage_of conn self.new.connections) ≡ true → 3 ≤ log.new.room) }
-        ensures err { OnErr result (self.new ≡ self.old) }
-        ensures err_acts { OnErr result (log.new.acts ≡ log.old.acts) }
-        ensures err_room { OnErr result (3 ≤ log.new.room) }
-    {
-        if self.on_publish(key, publish, log)? {
-            return Ok(());
-        }
-        self.close(conn, HubClose::TargetFull, log);
-        Ok(())
-    }
-
     /// Handles a PUBLISH (3.3): its message is delivered and the publisher's end answers. Closes
     /// the connection if the identifier does not fit the receive window, or if a session has no
     /// room for its copy (2.3.1) and the configuration says so.
@@ -128,7 +100,13 @@ impl<S: FilterStore> HubOver<S> {
         ensures err_room { OnErr result (3 ≤ log.new.room) }
     {
         match self.reception(key, &publish) {
-            Reception::Handed => self.take_handed(conn, key, publish, log),
+            Reception::Handed => {
+                if self.on_publish(key, publish, log)? {
+                    return Ok(());
+                }
+                self.close(conn, HubClose::TargetFull, log);
+                Ok(())
+            }
             Reception::Duplicate => self.take_silent(key, Packet::Publish(publish)),
             Reception::WindowFull => {
                 self.close(conn, HubClose::Own(CloseReason::Window), log);

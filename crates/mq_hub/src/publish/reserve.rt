@@ -1,4 +1,5 @@
-//! Plans the delivery of a message and reserves the memory for it, before anything changes.
+//! Plans the delivery of a message and reserves the memory for it, before anything changes. Then
+//! delivers it.
 
 ghost use Rattle.std.specs.Prelude.{◌≡◌, ◌+◌, ◌≤◌, ◌<◌, ℕ, length, true, IfOk, Ok};
 ghost use Rattle.mq_packet.specs.declared.message.Message.{Message};
@@ -17,8 +18,8 @@ ghost use Rattle.mq_hub.specs.Inside.View.{hub_of};
 ghost use Rattle.mq_hub.specs.Inside.DeliveryPlan.{AreTablesAlike, IsPlanned, IsReserved};
 
 use crate::acts::ActLog;
-use crate::publish::delivery::DeliveryPlan;
-use crate::publish::enqueue::copies_of;
+use crate::publish::delivery::{DeliveryPlan, push_all};
+use crate::publish::enqueue::{copies_of, place_all};
 use crate::publish::queued_answer::QueuedAnswer;
 use mq_packet::Message;
 use mq_route::Act;
@@ -111,5 +112,9 @@ pub(crate) fn deliver<S: FilterStore>(
     ensures connections { tables.new.connections ≡ tables.old.connections }
     ensures room { log.old.room ≤ log.new.room + length plan.acts.items + 1 }
 {
-    plan.deliver_copies(act, &mut tables.retained, &mut tables.sessions, log);
+    let DeliveryPlan { kept, copies, acts } = plan;
+    tables.retained.retain_planned(kept);
+    log.push(act);
+    push_all(log, acts);
+    place_all(&mut tables.sessions, copies);
 }

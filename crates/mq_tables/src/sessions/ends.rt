@@ -54,17 +54,6 @@ fn ready_at(
     list[at].ready(messages, more)
 }
 
-fn publish_at(list: &mut [BoxedSession], key: ClientKey, message: PreparedMessage)
-    requires ascending { AreAscending list.old }
-    requires ready { IsReadyAt key (message ∷ []) 0 list.old }
-    ensures list { list.new ≡ placed_at key message list.old }
-    ensures left { (rest : List Message) (more : ℕ) → IsReadyAt key (message ∷ rest) more list.old
-        → IsReadyAt key rest more (placed_at key message list.old) }
-{
-    let at = place(list, key);
-    list[at].publish(message);
-}
-
 #[inline(always)]
 fn serve_at(
     list: &mut [BoxedSession],
@@ -155,7 +144,9 @@ impl Sessions {
             → IsReadyAt key rest more self.new.list }
         ensures room { self.new.room ≡ self.old.room }
     {
-        publish_at(self.list.as_mut_slice(), key, message);
+        let list = self.list.as_mut_slice();
+        let at = place(list, key);
+        list[at].publish(message);
     }
 }
 

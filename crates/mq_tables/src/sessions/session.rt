@@ -139,7 +139,9 @@ impl BoxedSession {
             → IsReady rest more (published message self.old.end) }
     {
         let session = &mut *self.session;
-        publish_ready(&mut session.end, message);
+        next_laws();
+        encoding_laws();
+        let _ = session.end.publish_prepared(message);
     }
 }
 
@@ -300,15 +302,4 @@ fn detach_end(end: &mut ServerEnd, output: &mut ByteQueue)
 {
     end.swap_output(output);
     end.dropped();
-}
-
-fn publish_ready(end: &mut ServerEnd, message: PreparedMessage)
-    requires { IsReady (message ∷ []) 0 end.old }
-    ensures end { end.new ≡ published message end.old }
-    ensures left { (rest : List Message) (more : ℕ) → IsReady (message ∷ rest) more end.old
-        → IsReady rest more (published message end.old) }
-{
-    next_laws();
-    encoding_laws();
-    let _ = end.publish_prepared(message);
 }
