@@ -69,13 +69,16 @@ fn write_all(file: &File, at: u64, bytes: &[u8]) -> Option<u64>
 
 impl JournalFile {
     /// Opens a file that exists and is durable, and empties it.
+    ///
+    /// A file that is empty already is not truncated. ext4 writes a truncated file to the disk when
+    /// it is closed, and waits for that even if the file was removed.
     pub fn empty<R: Files<File = File>>(rt: &R, path: &str, keep: Keep) -> io::Result<JournalFile>
         ensures { IfOk result (λ file. file ≡ []) }
     {
-        let file = OpenOptions::new()
-            .write(true)
-            .truncate(true)
-            .open(rt, path)?;
+        let file = OpenOptions::new().write(true).open(rt, path)?;
+        if file.metadata()?.len() > 0 {
+            file.set_len(0)?;
+        }
         let history = Record::new();
         Ok(JournalFile {
             file,
