@@ -1,5 +1,5 @@
 -- The calls of the parts of a round, one after another.
-use Rattle.std.proofs.Common.{◌≡◌, ◌+◌, ◌<◌, ◌≤◌, ℕ, zero, suc, Bool, true, false, cond, List, [], ◌∷◌, ◌++◌, length, map, set, is_some, Option, Some, None, true≢false, append_assoc, append-nil, refl, sym, ap, subst, ◌∙◌, arith}
+use Rattle.std.proofs.Common.{◌≡◌, ◌+◌, ◌<◌, ◌≤◌, ℕ, zero, suc, add-one, Bool, true, false, cond, List, [], ◌∷◌, ◌++◌, length, map, set, drop, drop-cons, is_some, Option, Some, None, true≢false, append_assoc, append-nil, refl, sym, ap, subst, ◌∙◌, arith}
 use Rattle.std.proofs.lemmas.List.{get_or-set_other}
 use Rattle.std.specs.Prelude.{slice_index_or}
 use Rattle.mq_route.specs.declared.event.HubEvent.{HubEvent}
@@ -244,8 +244,19 @@ heard_step ages t rest more x y z is sorted h r =
 pub sorted_step : (t : Turn) (rest more : List Turn) → rest ≡ t ∷ more → IsOldestFirst rest → IsOldestFirst more
 sorted_step t rest more is sorted = tail_sorted t more (subst IsOldestFirst is sorted)
 
-pub fewer_left : (t : Turn) (rest more : List Turn) → rest ≡ t ∷ more → length more < length rest
-fewer_left t rest more is = subst (λ (turns : List Turn). length more < length turns) (sym is) (omega arith)
+first_left : (turns : List Turn) (n : ℕ) (other : Turn) → n < length turns → drop n turns ≡ slice_index_or turns n other ∷ drop (n + 1) turns
+first_left turns n other within =
+    drop-cons turns n other within ∙ ap (λ (m : ℕ). slice_index_or turns n other ∷ drop m turns) (sym (add-one n))
+
+pub sorted_at : (turns : List Turn) (n : ℕ) → n < length turns → IsOldestFirst (drop n turns) → IsOldestFirst (drop (n + 1) turns)
+sorted_at turns n within sorted =
+    let other : Turn = record { age = 0; place = 0 } in
+    sorted_step (slice_index_or turns n other) (drop n turns) (drop (n + 1) turns) (first_left turns n other within) sorted
+
+pub heard_at : (ages : Ages) (turns : List Turn) (n : ℕ) (other : Turn) (x y z : Option (List Call)) → n < length turns → IsOldestFirst (drop n turns)
+    → HeardSo ages (drop n turns) x y → ReadsOf ages (slice_index_or turns n other).age y z → HeardSo ages (drop (n + 1) turns) x z
+heard_at ages turns n other x y z within sorted h r =
+    heard_step ages (slice_index_or turns n other) (drop n turns) (drop (n + 1) turns) x y z (first_left turns n other within) sorted h r
 
 -- ---- rounds
 
@@ -271,6 +282,14 @@ round_of ages x y z w a r b = record {
 
     places : ages_read ages ((a.made ++ r.made) ++ b.made) ≡ ages_read ages r.made
     places = ap (map (λ (place : ℕ). age_at place ages)) read
+
+-- the same with equal calls and ages between the parts
+pub round_parts : (ages begun : Ages) (x start y before after z w : Option (List Call)) → begun ≡ ages → start ≡ x → before ≡ y → after ≡ z
+    → Quietly start y → IsRound begun before z → Quietly after w → IsRound ages x w
+round_parts ages begun x start y before after z w same first second third a r b =
+    round_of ages x y z w (subst (λ (o : Option (List Call)). Quietly o y) first a)
+    (subst (λ (o : Option (List Call)). IsRound ages o z) second (subst (λ (it : Ages). IsRound it before z) same r))
+    (subst (λ (o : Option (List Call)). Quietly o w) third b)
 
 -- ---- ages
 

@@ -1,8 +1,8 @@
 -- The output of each connection after a call.
-use Rattle.std.proofs.Common.{◌≡◌, ◌≢◌, ◌<◌, ◌≤◌, ◌||◌, inl, inr, ℕ, Bool, true, false, List, [], ◌∷◌, length, set, Option, Some, None, IfSome, is_some, cond, eqb, eqb-true, eq-eqb, true≢false, refl, sym, ap, ap₂, subst, ◌∙◌, arith}
+use Rattle.std.proofs.Common.{◌≡◌, ◌≢◌, ◌<◌, ◌≤◌, ◌==◌, ◌||◌, inl, inr, ℕ, Bool, true, false, List, [], ◌∷◌, length, set, Option, Some, None, IfSome, is_some, cond, eqb, eqb-true, eq-eqb, true≢false, refl, sym, ap, ap₂, subst, ◌∙◌, arith}
 use Rattle.std.proofs.lemmas.Bool.{cond-true, cond-false}
 use Rattle.std.proofs.lemmas.List.{set-get_or}
-use Rattle.std.specs.Prelude.{slice_index_or}
+use Rattle.std.specs.Prelude.{not, slice_index_or}
 use Rattle.mq_route.specs.declared.conn.Conn.{Conn}
 use Rattle.mq_route.specs.declared.event.HubEvent.TheVariants.{Collect}
 use Rattle.mq_route.specs.declared.reply.HubReply.{HubReply}
@@ -13,8 +13,8 @@ use Rattle.mq_route.specs.Work.{Work}
 use Rattle.mq_loop.specs.declared.connection.Flushed.{Flushed}
 use Rattle.mq_loop.specs.declared.connection.Flushed.TheVariants.{All, Blocked, Failed}
 use Rattle.mq_loop.specs.Accounts.{Line, line_at, name_at}
-use Rattle.mq_loop.specs.Rounds.{AtOutputs, Collects, IsFlushed, IsFull, IsWritten, Output, OthersStay, OutputStays, exists_at, output_at, output_of}
-use Rattle.mq_loop.proofs.CarriedBytes.{set_same, set_other}
+use Rattle.mq_loop.specs.Rounds.{AtOutputs, Collects, IsFlushed, IsFull, IsWritten, Output, OthersStay, OutputStays, exists_at, kept_at, kept_of, output_at, output_of}
+use Rattle.mq_loop.proofs.CarriedBytes.{no_bytes, set_same, set_other}
 
 pub output_same : (lines : List (Option Line)) (q : ℕ) (x : Option Line) → q < length lines → output_at q (set lines q x) ≡ output_of x
 output_same lines q x within = ap output_of (set_same lines q x within)
@@ -55,6 +55,22 @@ at_exists None None P h = refl
 at_exists None (Some y) P h = absurd h
 at_exists (Some x) None P h = absurd h
 at_exists (Some x) (Some y) P h = refl
+
+-- all kept output was written
+kept_none : (old : Option Output) (line : Option Line) → AtOutputs old (output_of line) (IsFlushed All) → kept_of line ≡ []
+kept_none old None h = refl
+kept_none None (Some line) h = absurd h
+kept_none (Some o) (Some line) h = h.0
+
+pub nothing_kept : (old : Option Output) (place : ℕ) (lines : List (Option Line)) → AtOutputs old (output_at place lines) (IsFlushed All) → kept_at place lines ≡ []
+nothing_kept old place lines h = kept_none old (line_at place lines) h
+
+not_not : (b : Bool) → not b ≡ false → true ≡ b
+not_not true h = refl
+not_not false h = absurd (true≢false h)
+
+pub not_blocked : (bytes : List ℕ) → not (length bytes == 0) ≡ false → bytes ≡ []
+not_blocked bytes h = no_bytes bytes (not_not (length bytes == 0) h)
 
 flushed_is : (r : Flushed) (old new : Output) → (r ≡ All → new.kept ≡ []) → (r ≡ Blocked → new.full ≡ true) → (r ≢ Failed → new.finished ≡ old.finished) → IsFlushed r old new
 flushed_is All old new all blocked sound = (all refl, sound (λ e. cc))

@@ -344,7 +344,7 @@ impl<B: Broker + Drop, S: Socket + Drop, O: Observer + Drop> EventLoop<B, S, O> 
     ///
     /// If a commit fails, no output is collected or written any more: this call and later ones
     /// return the failure, and the program must end. A commit of a `Hub` never fails.
-    #[tactic(auto, using(crate::proofs::Calling::round_none, crate::proofs::Calling::round_of))]
+    #[tactic(auto, using(crate::proofs::Calling::round_none))]
     pub fn round(&mut self, now: u64, buffer: &mut [u8]) -> Result<(), CommitFailure>
         ensures settled { OnOk result (IsSettled self.new.watched) }
         ensures bounded { OnOk result (AreBounded self.new.watched) }
@@ -362,7 +362,12 @@ impl<B: Broker + Drop, S: Socket + Drop, O: Observer + Drop> EventLoop<B, S, O> 
         }
         self.time = now;
         self.tick(now);
-        self.hear_all(buffer);
+        let turns = self.begin_turns();
+        for turn in turns.as_slice() {
+            let waits = self.must_wait(turn.place);
+            self.hear(*turn, waits, buffer);
+        }
+        self.end_turns(turns);
         let settled = self.watched.settle(&mut self.observer);
         self.failure = settled.err();
         settled

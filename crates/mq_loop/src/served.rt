@@ -83,22 +83,6 @@ fn name_at(place: u32) -> Conn
     }
 }
 
-// Makes the step of the front of these bytes, which must not be empty. Returns the reply and the
-// number of bytes that the step took. On `None` an allocation failed, and no step was made.
-fn take_some<B: Broker>(broker: &mut B, place: u32, bytes: &[u8]) -> Option<(HubReply, usize)>
-    ensures step { IfSome result (λ r. HubStep (B.state broker.old) (BytesSeen (name_at place) (take r.1 bytes.now)) r.0 (B.state broker.new)) }
-    ensures within { IfSome result (λ r. r.1 ≤ length bytes.now) }
-    ensures none { IfNone result (B.state broker.new ≡ B.state broker.old) }
-    ensures calls { IfSome result (λ r. B.calls broker.new ≡ with_calls (B.calls broker.old) (step (BytesSeen (name_at place) (take r.1 bytes.now)) r.0 ∷ [])) }
-    ensures uncalled { IfNone result (B.calls broker.new ≡ B.calls broker.old) }
-    ensures notes { B.notes broker.new ≡ B.notes broker.old }
-{
-    match broker.step_some(name_at(place), bytes, MOST_ACTS) {
-        Ok((reply, count)) => Some((reply, count)),
-        Err(_) => None,
-    }
-}
-
 impl<B: Broker + Drop, S: Socket + Drop> Served<B, S> {
     /// A broker that serves no connection yet.
     #[tactic(auto, using(crate::proofs::CarriedBytes::new_served))]
@@ -215,8 +199,10 @@ impl<B: Broker + Drop, S: Socket + Drop> Served<B, S> {
         if connection.is_finished() {
             return Heard::Over;
         }
+        let conn = name_at(place);
         if !connection.unread().is_empty() {
-            let Some((reply, used)) = take_some(&mut self.broker, place, connection.unread()) else {
+            let Ok((reply, used)) = self.broker.step_some(conn, connection.unread(), MOST_ACTS)
+            else {
                 return Heard::Over;
             };
             connection.skip_unread(used);
@@ -227,7 +213,7 @@ impl<B: Broker + Drop, S: Socket + Drop> Served<B, S> {
             ReadOutcome::Nothing => return Heard::Nothing,
             ReadOutcome::End | ReadOutcome::Failed => return Heard::Over,
         };
-        let Some((reply, used)) = take_some(&mut self.broker, place, &buffer[..count]) else {
+        let Ok((reply, used)) = self.broker.step_some(conn, &buffer[..count], MOST_ACTS) else {
             connection.mark_broken();
             return Heard::Over;
         };

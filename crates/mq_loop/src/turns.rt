@@ -1,6 +1,6 @@
 //! The turns of connections in a round.
 
-ghost use Rattle.std.specs.Prelude.{◌≡◌, ◌∷◌, [], IfNone, IfSome, if◌then◌else◌};
+ghost use Rattle.std.specs.Prelude.{◌≡◌, if◌then◌else◌};
 ghost use Rattle.mq_loop.specs.Inside.Turns.{IsOldestFirst, holding, must_wait, no_holds};
 
 use crate::reading::Reading;
@@ -21,17 +21,6 @@ pub(crate) fn sort_turns(turns: &mut Vec<Turn>)
     ensures { IsOldestFirst turns.new.items }
 {
     turns.sort_unstable();
-}
-
-/// The first of these turns, and those after it.
-pub(crate) fn next_turn(turns: &[Turn]) -> Option<(Turn, &[Turn])>
-    ensures some { IfSome result (λ r. turns.now ≡ r.0 ∷ r.1.now) }
-    ensures none { IfNone result (turns.now ≡ []) }
-{
-    match turns {
-        [turn, more @ ..] => Some((*turn, more)),
-        [] => None,
-    }
 }
 
 /// The connections for which newer ones wait in a round, because they may have more to read.

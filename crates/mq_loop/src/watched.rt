@@ -169,9 +169,11 @@ impl<B: Broker + Drop, S: Socket + Drop> Watched<B, S> {
     }
 
     /// Writes the output that is kept for a connection. Returns whether nothing is kept any more.
+    #[tactic(auto, using(crate::proofs::Outputs::nothing_kept))]
     pub(crate) fn flush(&mut self, place: u32) -> bool
         ensures base { self.new.served.base ≡ self.old.served.base }
         ensures calls { self.new.served.calls ≡ self.old.served.calls }
+        ensures all { result ≡ true → kept_at place self.new.served.lines ≡ [] }
     {
         match self.served.flush(place) {
             Flushed::All => {

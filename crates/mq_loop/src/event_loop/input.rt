@@ -1,8 +1,9 @@
 //! Reads of a round.
 
-ghost use Rattle.std.specs.Prelude.{◌≡◌, true};
-ghost use Rattle.mq_loop.specs.Calls.{IsRound, Reads, ReadsOf, age_at};
+ghost use Rattle.std.specs.Prelude.{◌≡◌, [], false, true};
+ghost use Rattle.mq_loop.specs.Calls.{ReadsOf, age_at};
 ghost use Rattle.mq_loop.specs.Inside.Turns.{IsOldestFirst};
+ghost use Rattle.mq_loop.specs.Rounds.{kept_at};
 
 use crate::broker::Broker;
 use crate::event_loop::EventLoop;
@@ -11,7 +12,7 @@ use crate::reading::Reading;
 use crate::report::Report;
 use crate::served::Heard;
 use crate::socket::Socket;
-use crate::turns::{Holds, Turn, next_turn, sort_turns};
+use crate::turns::{Holds, Turn, sort_turns};
 use mq_decode::{Decoder, Limits};
 use mq_packet::Packet;
 use mq_route::{Act, HubReply};
@@ -44,36 +45,26 @@ fn share_of(acts: &[Act]) -> usize {
 }
 
 impl<B: Broker + Drop, S: Socket + Drop, O: Observer + Drop> EventLoop<B, S, O> {
-    // Reads from each connection that is ready, oldest first.
-    pub(super) fn hear_all(&mut self, buffer: &mut [u8])
-        ensures base { self.new.watched.served.base ≡ self.old.watched.served.base }
-        ensures calls { IsRound self.old.ages self.old.watched.served.calls self.new.watched.served.calls }
-        ensures ages { self.new.ages ≡ self.old.ages }
+    // The turns of a round: those of the connections that are ready, oldest first.
+    pub(super) fn begin_turns(&mut self) -> Vec<Turn>
+        ensures same { self.new ≡ self.old }
+        ensures sorted { IsOldestFirst result.items }
     {
         self.holds = Holds::none();
         let mut turns = mem::replace(&mut self.turns, Vec::new(self.alloc));
         mem::swap(&mut self.ready, &mut turns);
         sort_turns(&mut turns);
-        self.hear_turns(turns.as_slice(), buffer);
+        turns
+    }
+
+    // Ends the turns of a round, and keeps the memory of their list.
+    pub(super) fn end_turns(&mut self, turns: Vec<Turn>)
+        ensures { self.new ≡ self.old }
+    {
+        let mut turns = turns;
         turns.clear();
         self.turns = turns;
         self.list_newcomers();
-    }
-
-    // Reads from the connections of these turns, in their order.
-    #[tactic(auto, using(crate::proofs::Calling::heard_none, crate::proofs::Calling::round_heard))]
-    fn hear_turns(&mut self, turns: &[Turn], buffer: &mut [u8])
-        requires { IsOldestFirst turns.now }
-        ensures base { self.new.watched.served.base ≡ self.old.watched.served.base }
-        ensures calls { IsRound self.old.ages self.old.watched.served.calls self.new.watched.served.calls }
-        ensures ages { self.new.ages ≡ self.old.ages }
-    {
-        let mut rest = turns;
-        while let Some((turn, more)) = next_turn(rest) {
-            let waits = self.must_wait(turn.place);
-            self.hear(turn, waits, buffer);
-            rest = more;
-        }
     }
 
     // Connections that were opened before this round may be read from in the next one.
@@ -94,7 +85,7 @@ impl<B: Broker + Drop, S: Socket + Drop, O: Observer + Drop> EventLoop<B, S, O> 
     }
 
     // Whether a connection must wait for an older one. One with a client never does.
-    fn must_wait(&self, place: u32) -> bool {
+    pub(super) fn must_wait(&self, place: u32) -> bool {
         if self.watched.notes().has_client(place) {
             return false;
         }
@@ -154,32 +145,60 @@ impl<B: Broker + Drop, S: Socket + Drop, O: Observer + Drop> EventLoop<B, S, O> 
         true
     }
 
+    // Begins the turn of a connection. Returns whether it may be read from now. It may not if it
+    // waits for an older one, or while its output is blocked.
+    #[tactic(auto, using(crate::proofs::Outputs::not_blocked))]
+    fn begin_turn(&mut self, turn: Turn, waits: bool) -> bool
+        ensures base { self.new.watched.served.base ≡ self.old.watched.served.base }
+        ensures calls { self.new.watched.served.calls ≡ self.old.watched.served.calls }
+        ensures ages { self.new.ages ≡ self.old.ages }
+        ensures age { result ≡ true → age_at turn.place self.old.ages ≡ turn.age }
+        ensures waits { waits ≡ true → result ≡ false }
+        ensures waiting { waits ≡ true → self.new ≡ self.old }
+        ensures unblocked { result ≡ true → kept_at turn.place self.new.watched.served.lines ≡ [] }
+    {
+        let place = turn.place;
+        if !self.take_turn(turn) || !self.watched.notes().is_open(place) {
+            return false;
+        }
+        if waits {
+            self.list_ready(place);
+            return false;
+        }
+        !self.watched.is_blocked(place) || self.watched.flush(place)
+    }
+
     // Reads from a connection until it has nothing more or has used its share. Reads nothing if it
     // waits for an older one, or while its output is blocked.
     #[tactic(auto, using(crate::proofs::Calling::of_none, crate::proofs::Calling::of_place, crate::proofs::Calling::of_then))]
-    fn hear(&mut self, turn: Turn, waits: bool, buffer: &mut [u8])
+    pub(super) fn hear(&mut self, turn: Turn, waits: bool, buffer: &mut [u8])
         ensures base { self.new.watched.served.base ≡ self.old.watched.served.base }
         ensures calls { ReadsOf self.old.ages turn.age self.old.watched.served.calls self.new.watched.served.calls }
         ensures ages { self.new.ages ≡ self.old.ages }
         ensures waits { waits ≡ true → self.new ≡ self.old }
     {
         let place = turn.place;
-        if !self.take_turn(turn) || !self.watched.notes().is_open(place) {
-            return;
-        }
-        if waits {
-            self.list_ready(place);
-            return;
-        }
-        if self.watched.is_blocked(place) && !self.watched.flush(place) {
+        if !self.begin_turn(turn, waits) {
             return;
         }
         let mut left = self.limits.share;
         for _ in 0..u64::MAX {
-            match self.hear_once(place, buffer) {
-                Some(count) => left = left.saturating_sub(count),
-                None => return,
+            if !self.watched.notes().may_read(place) {
+                return;
             }
+            let is_fresh = !self.watched.notes().has_client(place);
+            let (count, reply) = match self.watched.read(place, buffer) {
+                Heard::Step(count, reply) => (count, reply),
+                Heard::Nothing => {
+                    self.note_empty(place);
+                    return;
+                }
+                Heard::Over => return,
+            };
+            let Some(used) = self.note_step(place, is_fresh, count, reply, buffer) else {
+                return;
+            };
+            left = left.saturating_sub(used);
             if left == 0 {
                 self.put_off(place);
                 return;
@@ -187,32 +206,25 @@ impl<B: Broker + Drop, S: Socket + Drop, O: Observer + Drop> EventLoop<B, S, O> 
         }
     }
 
-    // Reads once. Returns how much of the share was used, or `None` if nothing more is to be read
-    // now.
-    #[tactic(auto, using(crate::proofs::Calling::reads_none))]
-    fn hear_once(&mut self, place: u32, buffer: &mut [u8]) -> Option<usize>
-        ensures base { self.new.watched.served.base ≡ self.old.watched.served.base }
-        ensures calls { Reads place self.old.watched.served.calls self.new.watched.served.calls }
-        ensures ages { self.new.ages ≡ self.old.ages }
+    // Notes a step with bytes of a connection. Returns how much of its share was used, or `None` if
+    // nothing more is to be read now.
+    fn note_step(
+        &mut self,
+        place: u32,
+        is_fresh: bool,
+        count: usize,
+        reply: HubReply,
+        buffer: &[u8],
+    ) -> Option<usize>
+        ensures { self.new ≡ record self.old { observer = self.new.observer } }
     {
-        if !self.watched.notes().may_read(place) {
-            return None;
+        self.observer.on_reply(&reply);
+        if is_fresh && count <= buffer.len() {
+            self.report_client(place, &reply, &buffer[..count]);
         }
-        let is_fresh = !self.watched.notes().has_client(place);
-        match self.watched.read(place, buffer) {
-            Heard::Nothing => {
-                self.note_empty(place);
-                None
-            }
-            Heard::Over => None,
-            Heard::Step(count, reply) => {
-                self.observer.on_reply(&reply);
-                if is_fresh && count <= buffer.len() {
-                    self.report_client(place, &reply, &buffer[..count]);
-                }
-                self.note_read(place, count, buffer.len(), share_of(reply.acts.as_slice()))
-            }
-        }
+        let used = share_of(reply.acts.as_slice());
+        drop(reply);
+        self.note_read(place, count, buffer.len(), used)
     }
 
     // Notes a read, whose acts used this part of the share. Returns how much of the share was used,
