@@ -1,2 +1,3 @@
 pub mod Seconds
 pub mod Options
+pub mod Grammar

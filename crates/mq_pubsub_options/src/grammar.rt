@@ -1,5 +1,9 @@
 //! The definition of the command lines.
 
+ghost use Rattle.std.specs.Prelude.{◌≡◌, false, map, IfOk};
+ghost use Rattle.clap.specs.Words.{app_of, rule_of, with_rule};
+ghost use Rattle.mq_pubsub_options.specs.Grammar.{bare_app, common_rules, named_rule_of, number_rule, publish_app, rule_of_row, subscribe_app, text_rule, with_rules};
+
 use clap::{Arg, ArgAction, Command, value_parser};
 use std::alloc::{AllocError, Global};
 
@@ -373,7 +377,11 @@ static SUBSCRIBE: [Row; 11] = [
 ];
 
 // An argument with the names of a row.
-fn named<'a>(arg: Arg<'a>, row: &Row) -> Arg<'a> {
+fn named<'a>(alloc: Global, row: &Row) -> Arg<'a>
+    ensures rule { rule_of result ≡ named_rule_of row.now }
+    ensures local { result.global ≡ false }
+{
+    let arg = Arg::new(alloc, row.id).help(row.help);
     match (row.short, row.long) {
         (Some(short), Some(long)) => arg.short(short).long(long),
         (Some(short), None) => arg.short(short),
@@ -383,28 +391,44 @@ fn named<'a>(arg: Arg<'a>, row: &Row) -> Arg<'a> {
 }
 
 // An argument with a text.
-fn texted<'a>(arg: Arg<'a>, row: &Row) -> Arg<'a> {
-    arg.value_name(row.value).allow_hyphen_values(true)
+fn texted<'a>(alloc: Global, row: &Row) -> Arg<'a>
+    ensures rule { rule_of result ≡ text_rule (named_rule_of row.now) }
+    ensures local { result.global ≡ false }
+{
+    named(alloc, row)
+        .value_name(row.value)
+        .allow_hyphen_values(true)
+}
+
+// An argument with a number that has these bounds.
+fn numbered<'a>(alloc: Global, row: &Row, least: i64, most: i64) -> Arg<'a>
+    ensures rule { rule_of result ≡ number_rule least most (named_rule_of row.now) }
+    ensures local { result.global ≡ false }
+{
+    named(alloc, row)
+        .value_name(row.value)
+        .value_parser(value_parser!(u32).range(least..=most))
 }
 
 // An argument of a row.
-fn arg_of<'a>(alloc: Global, row: &Row) -> Result<Arg<'a>, AllocError> {
-    let arg = named(Arg::new(alloc, row.id).help(row.help), row);
+fn arg_of<'a>(alloc: Global, row: &Row) -> Result<Arg<'a>, AllocError>
+    ensures rule { IfOk result (λ arg. rule_of arg ≡ rule_of_row row.now) }
+    ensures local { IfOk result (λ arg. arg.global ≡ false) }
+{
     match row.kind {
-        Kind::Help => Ok(arg.action(ArgAction::Help)),
-        Kind::Text => Ok(texted(arg, row)),
-        Kind::Renamed(other) => texted(arg, row).alias(other),
-        Kind::Texts => Ok(texted(arg, row).action(ArgAction::Append)),
-        Kind::Number(least, most) => Ok(
-            arg.value_name(row.value)
-                .value_parser(value_parser!(u32).range(least..=most)),
-        ),
-        Kind::Flag => Ok(arg.action(ArgAction::SetTrue)),
+        Kind::Help => Ok(named(alloc, row).action(ArgAction::Help)),
+        Kind::Text => Ok(texted(alloc, row)),
+        Kind::Renamed(other) => texted(alloc, row).alias(other),
+        Kind::Texts => Ok(texted(alloc, row).action(ArgAction::Append)),
+        Kind::Number(least, most) => Ok(numbered(alloc, row, least, most)),
+        Kind::Flag => Ok(named(alloc, row).action(ArgAction::SetTrue)),
     }
 }
 
 // Adds the argument of a row.
-fn with_row<'a>(command: Command<'a>, alloc: Global, row: &Row) -> Result<Command<'a>, AllocError> {
+fn with_row<'a>(command: Command<'a>, alloc: Global, row: &Row) -> Result<Command<'a>, AllocError>
+    ensures { IfOk result (λ new. app_of new ≡ with_rule (app_of command.entry) (rule_of_row row.now)) }
+{
     match arg_of(alloc, row) {
         Ok(arg) => command.arg(arg),
         Err(error) => {
@@ -419,7 +443,10 @@ fn with_rows<'a>(
     mut command: Command<'a>,
     alloc: Global,
     rows: &[Row],
-) -> Result<Command<'a>, AllocError> {
+) -> Result<Command<'a>, AllocError>
+    ensures { IfOk result (λ new.
+        app_of new ≡ with_rules (app_of command.entry) (map rule_of_row rows.now)) }
+{
     for row in rows {
         command = with_row(command, alloc, row)?;
     }
@@ -432,7 +459,10 @@ fn command_of<'a>(
     name: &'static str,
     about: &'static str,
     rows: &[Row],
-) -> Result<Command<'a>, AllocError> {
+) -> Result<Command<'a>, AllocError>
+    ensures { IfOk result (λ command. app_of command ≡ with_rules
+        (with_rules (bare_app name.now) common_rules) (map rule_of_row rows.now)) }
+{
     let command = Command::new(alloc, name)
         .about(about)
         .after_help(END)
@@ -443,13 +473,17 @@ fn command_of<'a>(
 }
 
 /// The command line of `mqtt pub`.
-pub fn publish_command<'a>(alloc: Global) -> Result<Command<'a>, AllocError> {
+pub fn publish_command<'a>(alloc: Global) -> Result<Command<'a>, AllocError>
+    ensures { IfOk result (λ command. app_of command ≡ publish_app) }
+{
     let about = "Publishes messages, and ends once the broker has acknowledged all of them";
     command_of(alloc, "mqtt pub", about, &PUBLISH)
 }
 
 /// The command line of `mqtt sub`.
-pub fn subscribe_command<'a>(alloc: Global) -> Result<Command<'a>, AllocError> {
+pub fn subscribe_command<'a>(alloc: Global) -> Result<Command<'a>, AllocError>
+    ensures { IfOk result (λ command. app_of command ≡ subscribe_app) }
+{
     let about = "Subscribes, and prints the messages that arrive";
     command_of(alloc, "mqtt sub", about, &SUBSCRIBE)
 }
