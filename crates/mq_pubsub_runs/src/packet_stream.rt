@@ -1,6 +1,6 @@
 //! Streams that end each read where a packet ends.
 
-ghost use Rattle.std.specs.Prelude.{◌≡◌, ◌≤◌};
+ghost use Rattle.std.specs.Prelude.{◌≡◌, ◌<◌, ◌-◌, length, max, min};
 
 use mq_decode::{Limits, packet_len};
 use mq_stream::{Broken, ReadOutcome, Stream};
@@ -31,7 +31,7 @@ struct Header {
 impl Header {
     // The number of bytes to read next, of at most `room`.
     fn wanted(&self, room: usize) -> usize
-        ensures { result ≤ room }
+        ensures { result ≡ min (max self.now.left 1) room }
     {
         self.left.max(1).min(room)
     }
@@ -55,7 +55,9 @@ impl Header {
     }
 
     // Notes bytes that were read.
-    fn note(&mut self, bytes: &[u8]) {
+    fn note(&mut self, bytes: &[u8])
+        ensures { 0 < self.old.left → self.new.left ≡ self.old.left - length bytes.now }
+    {
         match bytes {
             [] => {}
             [byte] if self.left == 0 => self.take(*byte),
@@ -65,8 +67,12 @@ impl Header {
 }
 
 impl<S: Stream> PacketStream<S> {
-    /// A stream whose packets have these limits.
-    pub fn new(inner: S, limits: Limits) -> PacketStream<S> {
+    /// A stream whose packets have these limits. It has read nothing yet.
+    pub fn new(inner: S, limits: Limits) -> PacketStream<S>
+        ensures inner { result.inner ≡ inner }
+        ensures limits { result.header.limits ≡ limits }
+        ensures header { (result.header.count ≡ 0) × (result.header.left ≡ 0) }
+    {
         PacketStream {
             inner,
             header: Header {
