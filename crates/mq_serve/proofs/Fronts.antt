@@ -39,5 +39,5 @@ front_more a b c all n m w bound p =
 pub nothing_written : (a b : Option (List ℕ)) → Keeps a b → Appends a b []
 nothing_written a b p = Appends-kept a a b [] (Appends-nil a) p
 
-pub front_cut : (a b : Option (List ℕ)) (all : List ℕ) (n : ℕ) → FrontWritten a b all n → AppendsFront a b all
-front_cut a b all n w = record { front = take n all; rest = drop n all; parts = sym (take-append-drop n all); appends = w.appends }
+pub front_cut : (a b : Option (List ℕ)) (all : List ℕ) (n : ℕ) → Appends a b (take n all) → AppendsFront a b all
+front_cut a b all n wrote = record { front = take n all; rest = drop n all; parts = sym (take-append-drop n all); appends = wrote }

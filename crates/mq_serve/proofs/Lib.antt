@@ -3,5 +3,6 @@ pub mod Sends
 pub mod AuditedRuns
 pub mod Reports
 pub mod Pendings
+pub mod Polleds
 pub mod Jobs
 pub mod Callings

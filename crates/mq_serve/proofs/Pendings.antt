@@ -33,18 +33,15 @@ wrote_front front later rest n old new low written left = record {
   left = left ∙ sym (drop-append-le n front later low);
 }
 
--- the later bytes are the front
-pub moved_up : (left later : List ℕ) → left ≡ [] → later ++ [] ≡ left ++ later
-moved_up left later none = append-nil later ∙ sym (ap (λ z. z ++ later) none)
+none_left : (rest : List ℕ) → true ≡ (length rest == 0) → rest ≡ []
+none_left [] is = refl
+none_left (x ∷ rest) is = absurd (grind (arith, nat_tests))
 
--- the writer failed at the front
-pub front_fails : (front later : List ℕ) (old new : Option (List ℕ)) → AppendsFront old new front → AppendsFront old new (front ++ later)
-front_fails front later old new f = record {
-  front = f.front;
-  rest = f.rest ++ later;
-  parts = ap (λ z. z ++ later) f.parts ∙ append_assoc f.front f.rest later;
-  appends = f.appends;
-}
+-- the front was written, and the later bytes are the front
+pub moved_up : (front later left rest : List ℕ) (n : ℕ) (old new : Option (List ℕ)) → n ≤ length front → Appends old new (take n front) → left ≡ drop n front → true ≡ (length left == 0)
+    → rest ≡ later ++ [] → WritesFront (front ++ later) rest old new
+moved_up front later left rest n old new low written left_is none rest_is =
+    wrote_front front later rest n old new low written (rest_is ∙ append-nil later ∙ sym (ap (λ z. z ++ later) (none_left left none)) ∙ ap (λ z. z ++ later) left_is)
 
 -- ---- sending
 
@@ -52,10 +49,6 @@ front_fails front later old new f = record {
 pub record First (pending bytes : List ℕ) (count : ℕ) (old new : Option (List ℕ)) : Type 0 where
   pub appended : Appends old new (take count bytes)
   pub waits : (pending ≡ []) ⊎ (count ≡ 0)
-
-none_left : (rest : List ℕ) → true ≡ (length rest == 0) → rest ≡ []
-none_left [] is = refl
-none_left (x ∷ rest) is = absurd (grind (arith, nat_tests))
 
 pub sends_all : (pending bytes rest : List ℕ) (count : ℕ) (old new : Option (List ℕ)) → First pending bytes count old new → rest ≡ drop count bytes → true ≡ (length rest == 0)
     → Sends bytes pending pending old new
@@ -82,13 +75,3 @@ send_fails pending bytes count old new first = record {
   parts = sym (take-append-drop count bytes);
   appends = first.appended;
 }
-
--- the rest of the bytes is pending
-pub sent_rest : {E : Type 0} (r : Result ⊤ E) (bytes pending rest : List ℕ) (old new : Option (List ℕ)) → OnOk r (Sends bytes pending rest old new) → OnOk r ((count : ℕ) × (rest ≡ pending ++ drop count bytes))
-sent_rest (Ok done) bytes pending rest old new sent = (sent.count, sent.left)
-sent_rest (Err e) bytes pending rest old new sent = tt
-
--- a part of the front was written, if the writer didn't fail
-pub wrote_part : {E : Type 0} (r : Result ⊤ E) (pending rest : List ℕ) (old new : Option (List ℕ)) → OnOk r (WritesFront pending rest old new) → OnErr r (rest ≡ pending) → (count : ℕ) × (rest ≡ drop count pending)
-wrote_part (Ok done) pending rest old new wrote same = (wrote.count, wrote.left)
-wrote_part (Err e) pending rest old new wrote same = (0, same)

@@ -4,4 +4,5 @@ pub mod Wakers
 pub mod ReadOrder
 pub mod Accepting
 pub mod Pending
+pub mod Polled
 pub mod Calls

@@ -1,5 +1,5 @@
 -- Output that a connection did not take yet.
-use Rattle.std.specs.Prelude.{◌≡◌, ◌⊎◌, ℕ, Bool, false, List, [], ◌++◌, take, drop, Option, None, Some}
+use Rattle.std.specs.Prelude.{◌≡◌, ◌⊎◌, ℕ, Bool, true, false, List, [], ◌++◌, length, take, drop, Option, None, Some}
 use Rattle.std.specs.Io.KnownBytes.{Appends}
 use Rattle.std.specs.declared.io.ErrorKind.{ErrorKind}
 use Rattle.std.specs.declared.io.ErrorKind.TheVariants.{Interrupted, WouldBlock}
@@ -28,6 +28,14 @@ pub record Sends (bytes pending rest : List ℕ) (old new : Option (List ℕ)) :
   pub written : Appends old new (take count bytes)
   pub left : rest ≡ pending ++ drop count bytes
   pub waits : (pending ≡ []) ⊎ (count ≡ 0)
+
+-- All of these bytes were written, or bytes of the peer are there.
+abbrev pub IsWhole : ℕ → List ℕ → Bool → Type 0
+IsWhole count bytes heard = (count ≡ length bytes) ⊎ (heard ≡ true)
+
+-- If nothing was pending before, nothing is, or bytes of the peer are there.
+abbrev pub IsSent : List ℕ → List ℕ → Bool → Type 0
+IsSent pending rest heard = pending ≡ [] → (rest ≡ []) ⊎ (heard ≡ true)
 
 -- The next action after a failed write, with whether the connection took no bytes for too long. The
 -- writer waits for room if there is none; any other error ends the connection.

@@ -16,6 +16,9 @@ use std::ops::ControlFlow;
 use std::sync::{Mutex, Wait};
 use std::time::Clock;
 
+// A polled connection over a socket of the system.
+type PolledSocket<'a, R> = PolledStream<'a, R, mio::net::TcpStream>;
+
 /// A listener that accepts a fixed number of connections.
 #[derive(Drop)]
 pub struct Acceptor {
@@ -163,7 +166,9 @@ impl<'a, R: Wait + Clock> WorkerAcceptor<'a, R> {
         acceptor: &'a Mutex<Acceptor>,
         poll: &'a Mutex<WorkerPoll>,
         turns: Option<ReadTurns<'a>>,
-    ) -> WorkerAcceptor<'a, R> {
+    ) -> WorkerAcceptor<'a, R>
+        ensures { result.turns ≡ turns.entry }
+    {
         WorkerAcceptor {
             rt,
             acceptor,
@@ -187,7 +192,7 @@ impl<'a, R: Wait + Clock> WorkerAcceptor<'a, R> {
 
     // Leaves the last connection and accepts the next one. `Continue` if that must be tried again,
     // and `Break(None)` if no more are to be accepted.
-    fn try_next(&self) -> ControlFlow<Option<PolledStream<'a, R>>> {
+    fn try_next(&self) -> ControlFlow<Option<PolledSocket<'a, R>>> {
         if let Some(turns) = self.turns {
             turns.leave(self.rt);
         }
@@ -209,9 +214,9 @@ impl<'a, R: Wait + Clock> WorkerAcceptor<'a, R> {
 }
 
 impl<'a, R: Wait + Clock> ConnectionSource for WorkerAcceptor<'a, R> {
-    type Stream = PolledStream<'a, R>;
+    type Stream = PolledSocket<'a, R>;
 
-    fn next(&mut self) -> Option<PolledStream<'a, R>> {
+    fn next(&mut self) -> Option<PolledSocket<'a, R>> {
         for _ in 0..u64::MAX {
             if let ControlFlow::Break(next) = self.try_next() {
                 return next;

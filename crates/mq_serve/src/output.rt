@@ -1,11 +1,13 @@
 //! Output that a connection takes bit by bit.
 
-ghost use Rattle.std.specs.Prelude.{◌≡◌, ◌≤◌, length, take, IfOk, MatchOption, OnErr};
+ghost use Rattle.std.specs.Prelude.{◌≡◌, ◌≤◌, Bool, true, length, take, IfNone, IfOk, MatchOption, None, OnErr, OnOk};
 ghost use Rattle.std.specs.Io.KnownBytes.{Appends, Keeps};
 ghost use Rattle.mq_packet.specs.Writing.{AppendsFront};
-ghost use Rattle.mq_serve.specs.Pending.{after_failed_write};
+ghost use Rattle.mq_stream.specs.Stream.{Arrives};
+ghost use Rattle.mq_serve.specs.Pending.{IsWhole, after_failed_write};
+ghost use Rattle.mq_serve.specs.declared.output.WriteNext.TheVariants.{Pause};
 
-use mq_stream::Broken;
+use mq_stream::{Broken, ReadOutcome};
 use std::io;
 use std::io::{ErrorKind, Write};
 
@@ -26,14 +28,24 @@ pub trait Patience {
     fn on_progress(&mut self);
 
     /// Called after a failed write, with whether bytes of the peer are there. May wait until the
-    /// writer has room.
-    fn on_error(&mut self, error: &io::Error, has_input: bool) -> WriteNext;
+    /// writer has room. Pauses only for bytes of the peer.
+    fn on_error(&mut self, error: &io::Error, has_input: bool) -> WriteNext
+        ensures { result ≡ Pause → has_input ≡ true };
 }
 
-/// A writer to a peer that writes too.
-pub trait Duplex {
+/// A connection that never waits, to a peer that writes too.
+pub trait Duplex: Write {
+    /// Whether bytes of the peer are there, or it is not known.
+    ghost heard: { Self → Bool } = { λ _. true };
+
     /// Returns whether bytes of the peer are there.
-    fn has_input(&self) -> bool;
+    fn has_input(&self) -> bool
+        ensures { result ≡ true → heard self.now ≡ true };
+
+    /// Reads bytes of the peer into `buffer`, which must not be empty.
+    fn read_now(&mut self, buffer: &mut [u8]) -> ReadOutcome
+        ensures comes { Arrives None None buffer.new result }
+        ensures written { Keeps (Self.contents self.old) (Self.contents self.new) };
 }
 
 /// The next action after a write that failed with this kind of error. `is_late` is whether the
@@ -50,7 +62,7 @@ pub(crate) fn after_failed_write(kind: ErrorKind, is_late: bool) -> Option<Write
 
 // Writes some bytes. Returns their number, or `None` to pause.
 #[tactic(auto, using(crate::proofs::Fronts::nothing_written))]
-fn write_once<W: Write + Duplex, P: Patience>(
+fn write_once<W: Duplex, P: Patience>(
     writer: &mut W,
     bytes: &[u8],
     patience: &mut P,
@@ -59,6 +71,7 @@ fn write_once<W: Write + Duplex, P: Patience>(
         (λ n. (n ≤ length bytes.now)
         × Appends (W.contents writer.old) (W.contents writer.new) (take n bytes.now))) }
     ensures err { OnErr result (Keeps (W.contents writer.old) (W.contents writer.new)) }
+    ensures pause { IfOk result (λ written. IfNone written (W.heard writer.new ≡ true)) }
 {
     match writer.write(bytes) {
         Ok(0) => Err(Broken),
@@ -77,10 +90,37 @@ fn write_once<W: Write + Duplex, P: Patience>(
     }
 }
 
+/// Writes bytes until all are written, or until bytes of the peer are a reason to pause.
+///
+/// Returns the number of bytes that were written, also after a failure.
+#[tactic(auto, using(crate::proofs::Fronts::front_none, crate::proofs::Fronts::front_more))]
+pub(crate) fn write_part<W: Duplex, P: Patience>(
+    writer: &mut W,
+    bytes: &[u8],
+    patience: &mut P,
+) -> (usize, Result<(), Broken>)
+    ensures part { Appends (W.contents writer.old) (W.contents writer.new) (take result.0 bytes.now) }
+    ensures bound { result.0 ≤ length bytes.now }
+    ensures whole { OnOk result.1 (IsWhole result.0 bytes.now (W.heard writer.new)) }
+{
+    let mut done = 0;
+    for _ in 0..u64::MAX {
+        if done == bytes.len() {
+            return (done, Ok(()));
+        }
+        match write_once(writer, &bytes[done..], patience) {
+            Ok(Some(count)) => done += count,
+            Ok(None) => return (done, Ok(())),
+            Err(Broken) => return (done, Err(Broken)),
+        }
+    }
+    (done, Err(Broken))
+}
+
 /// Writes bytes until all are written, or until there is a reason to pause. Returns the number of
 /// bytes that were written.
-#[tactic(auto, using(crate::proofs::Fronts::front_none, crate::proofs::Fronts::front_more, crate::proofs::Fronts::front_cut))]
-pub fn write_front<W: Write + Duplex, P: Patience>(
+#[tactic(auto, using(crate::proofs::Fronts::front_cut))]
+pub fn write_front<W: Duplex, P: Patience>(
     writer: &mut W,
     bytes: &[u8],
     patience: &mut P,
@@ -88,19 +128,11 @@ pub fn write_front<W: Write + Duplex, P: Patience>(
     ensures ok { IfOk result (λ n.
         Appends (W.contents writer.old) (W.contents writer.new) (take n bytes.now)) }
     ensures bound { IfOk result (λ n. n ≤ length bytes.now) }
+    ensures whole { IfOk result (λ n. IsWhole n bytes.now (W.heard writer.new)) }
     ensures err { OnErr result
         (AppendsFront (W.contents writer.old) (W.contents writer.new) bytes.now) }
 {
-    let mut done = 0;
-    for _ in 0..u64::MAX {
-        if done == bytes.len() {
-            return Ok(done);
-        }
-        match write_once(writer, &bytes[done..], patience) {
-            Ok(Some(count)) => done += count,
-            Ok(None) => return Ok(done),
-            Err(Broken) => return Err(Broken),
-        }
-    }
-    Err(Broken)
+    let (count, ended) = write_part(writer, bytes, patience);
+    ended?;
+    Ok(count)
 }

@@ -1,14 +1,14 @@
 //! Output that a connection did not take yet.
 
-ghost use Rattle.std.specs.Prelude.{◌≡◌, ◌↔◌, ◌++◌, [], IsTrue, OnErr, OnOk, length, nat_lt};
+ghost use Rattle.std.specs.Prelude.{◌≡◌, ◌⊎◌, ◌↔◌, ◌++◌, [], IsTrue, OnErr, OnOk, length, nat_lt, true};
+ghost use Rattle.std.specs.Io.KnownBytes.{Keeps};
 ghost use Rattle.mq_packet.specs.Writing.{AppendsFront};
-ghost use Rattle.mq_serve.specs.Pending.{Sends, WritesFront, bytes_of};
+ghost use Rattle.mq_serve.specs.Pending.{IsSent, Sends, WritesFront, bytes_of};
 
-use crate::output::{Duplex, Patience, write_front};
+use crate::output::{Duplex, Patience, write_front, write_part};
 use bytes::BytesMut;
 use mq_stream::Broken;
 use std::alloc::{AllocError, Global};
-use std::io::Write;
 use std::marker::Model;
 use std::mem;
 
@@ -75,29 +75,30 @@ impl PendingOutput {
         self.later.extend_from_slice(bytes)
     }
 
-    /// Writes the front, or a part of it until there is a reason to pause.
-    pub fn write<W: Write + Duplex, P: Patience>(
+    /// Writes the front, or a part of it until bytes of the peer are a reason to pause. Bytes that
+    /// were written are no longer pending, also on `Err`.
+    #[tactic(auto, using(crate::proofs::Pendings::wrote_front))]
+    pub fn write<W: Duplex, P: Patience>(
         &mut self,
         writer: &mut W,
         patience: &mut P,
     ) -> Result<(), Broken>
-        ensures ok { OnOk result (WritesFront (bytes_of self.old) (bytes_of self.new)
-            (W.contents writer.old) (W.contents writer.new)) }
-        ensures err { OnErr result
-            (AppendsFront (W.contents writer.old) (W.contents writer.new) (bytes_of self.old)) }
-        ensures same { OnErr result (self.new ≡ self.old) }
+        ensures front { WritesFront (bytes_of self.old) (bytes_of self.new)
+            (W.contents writer.old) (W.contents writer.new) }
+        ensures whole { OnOk result
+            ((bytes_of self.new ≡ self.old.later) ⊎ (W.heard writer.new ≡ true)) }
     {
-        let count = write_front(writer, self.front.as_slice(), patience)?;
+        let (count, ended) = write_part(writer, self.front.as_slice(), patience);
         self.front.advance(count);
         if self.front.is_empty() {
             self.front = mem::replace(&mut self.later, BytesMut::new(self.alloc));
         }
-        Ok(())
+        ended
     }
 
     /// Writes bytes, if no others are pending, until there is a reason to pause. Keeps the rest.
     /// Fails also if an allocation fails; then the rest is lost.
-    pub fn send<W: Write + Duplex, P: Patience>(
+    pub fn send<W: Duplex, P: Patience>(
         &mut self,
         writer: &mut W,
         bytes: &[u8],
@@ -108,6 +109,10 @@ impl PendingOutput {
         ensures err { OnErr result
             (AppendsFront (W.contents writer.old) (W.contents writer.new) bytes.now) }
         ensures same { OnErr result (self.new ≡ self.old) }
+        ensures waits { OnErr result ((bytes_of self.old ≡ [])
+            ⊎ Keeps (W.contents writer.old) (W.contents writer.new)) }
+        ensures whole { OnOk result
+            (IsSent (bytes_of self.old) (bytes_of self.new) (W.heard writer.new)) }
     {
         let mut count = 0;
         if self.is_empty() {

@@ -1,7 +1,12 @@
 //! Connections that a worker polls, for bytes, for room to write and for calls of other workers.
 
-ghost use Rattle.std.specs.Prelude.{◌≡◌, ◌<◌, ◌++◌, ℕ, [], None, IfOk, OnErr, OnOk, drop, false, true};
+ghost use Rattle.std.specs.Prelude.{◌≡◌, ◌⊎◌, ◌<◌, [], None, IfOk, OnErr, OnOk, false, true};
+ghost use Rattle.std.specs.Io.KnownBytes.{Keeps};
+ghost use Rattle.mq_packet.specs.Writing.{AppendsFront};
 ghost use Rattle.mq_stream.specs.Stream.{Arrives, IsUnread, outcome_of};
+ghost use Rattle.mq_serve.specs.Pending.{IsSent, Sends, WritesFront, bytes_of};
+ghost use Rattle.mq_serve.specs.Polled.{written_of};
+ghost use Rattle.mq_serve.specs.declared.output.WriteNext.TheVariants.{Pause};
 
 use crate::output::{Duplex, Patience, WriteNext, after_failed_write};
 use crate::pending_output::PendingOutput;
@@ -123,10 +128,10 @@ impl<'a> ReadTurn<'a> {
 
 /// A connection that one worker polls.
 #[derive(Drop)]
-pub struct PolledStream<'a, R: Wait + Clock> {
+pub struct PolledStream<'a, R: Wait + Clock, D: Duplex> {
     rt: &'a R,
     poll: &'a Mutex<WorkerPoll>,
-    stream: TcpStream,
+    stream: D,
     turn: Option<ReadTurn<'a>>,
     pending: PendingOutput,
     // When the connection last took bytes.
@@ -135,17 +140,19 @@ pub struct PolledStream<'a, R: Wait + Clock> {
     heard: Instant,
 }
 
-impl<'a, R: Wait + Clock> Model for PolledStream<'a, R> {
-    ghost use Rattle.std.specs.Prelude.{ℕ, List};
-    ghost use Rattle.mq_serve.specs.Pending.{bytes_of};
+impl<'a, R: Wait + Clock, D: Duplex> Model for PolledStream<'a, R, D> {
+    ghost use Rattle.mq_serve.specs.Polled.{Polled};
 
-    // the output that the connection did not take yet
-    ghost Value = { List ℕ };
+    ghost Value = { Polled };
 
-    ghost view = { λ s. bytes_of s.pending };
+    ghost view = { λ s. record {
+      taken = D.contents s.stream;
+      pending = s.pending;
+      heard = D.heard s.stream;
+    } };
 }
 
-impl<'a, R: Wait + Clock> PolledStream<'a, R> {
+impl<'a, R: Wait + Clock> PolledStream<'a, R, TcpStream> {
     /// Registers the connection with this poll, and makes it non-blocking and without delay.
     pub fn new(
         rt: &'a R,
@@ -153,8 +160,8 @@ impl<'a, R: Wait + Clock> PolledStream<'a, R> {
         poll: &'a Mutex<WorkerPoll>,
         stream: std::net::TcpStream,
         turn: Option<ReadTurn<'a>>,
-    ) -> io::Result<PolledStream<'a, R>>
-        ensures { IfOk result (λ polled. polled ≡ []) }
+    ) -> io::Result<PolledStream<'a, R, TcpStream>>
+        ensures { IfOk result (λ polled. bytes_of polled.pending ≡ []) }
     {
         stream.set_nodelay(true)?;
         stream.set_nonblocking(true)?;
@@ -178,12 +185,16 @@ impl<'a, R: Wait + Clock> PolledStream<'a, R> {
             heard: now,
         })
     }
+}
 
+impl<'a, R: Wait + Clock, D: Duplex> PolledStream<'a, R, D> {
     // Reads without waiting.
     fn read_now(&mut self, buffer: &mut [u8]) -> ReadOutcome
-        ensures { Arrives None None buffer.new result }
+        ensures comes { Arrives None None buffer.new result }
+        ensures taken { Keeps self.old.taken self.new.taken }
+        ensures pending { self.new.pending ≡ self.old.pending }
     {
-        let outcome = outcome(self.stream.read(buffer));
+        let outcome = self.stream.read_now(buffer);
         if let Some(turn) = self.turn {
             match outcome {
                 ReadOutcome::Nothing => turn.turns.note_empty(self.rt),
@@ -195,7 +206,9 @@ impl<'a, R: Wait + Clock> PolledStream<'a, R> {
     }
 
     // Waits until each worker with an older connection has read it to its end once, up to a limit.
-    fn await_turn(&mut self, turn: ReadTurn<'a>) {
+    fn await_turn(&mut self, turn: ReadTurn<'a>)
+        ensures { self.new ≡ self.old }
+    {
         self.turn = Some(ReadTurn {
             has_begun: true,
             ..turn
@@ -230,9 +243,11 @@ impl<'a, R: Wait + Clock> PolledStream<'a, R> {
     }
 
     // Writes pending output until bytes of the peer are there.
-    #[tactic(auto, using(crate::proofs::Pendings::wrote_part))]
     fn write_pending(&mut self) -> Result<(), Broken>
-        ensures { (count : ℕ) × (self.new ≡ drop count self.old) }
+        ensures front { WritesFront (bytes_of self.old.pending) (bytes_of self.new.pending)
+            self.old.taken self.new.taken }
+        ensures whole { OnOk result
+            ((bytes_of self.new.pending ≡ self.old.pending.later) ⊎ (self.new.heard ≡ true)) }
     {
         let mut patience = self.patience(!self.pending.is_long());
         let written = self.pending.write(&mut self.stream, &mut patience);
@@ -241,10 +256,15 @@ impl<'a, R: Wait + Clock> PolledStream<'a, R> {
     }
 
     // Sends bytes behind the pending output, until there is a reason to pause. The rest is pending.
-    #[tactic(auto, using(crate::proofs::Pendings::sent_rest))]
     fn send(&mut self, bytes: &[u8]) -> Result<(), Broken>
-        ensures ok { OnOk result ((count : ℕ) × (self.new ≡ self.old ++ drop count bytes.now)) }
-        ensures err { OnErr result (self.new ≡ self.old) }
+        ensures ok { OnOk result (Sends bytes.now (bytes_of self.old.pending) (bytes_of self.new.pending)
+            self.old.taken self.new.taken) }
+        ensures err { OnErr result (AppendsFront self.old.taken self.new.taken bytes.now) }
+        ensures same { OnErr result (self.new.pending ≡ self.old.pending) }
+        ensures waits { OnErr result ((bytes_of self.old.pending ≡ [])
+            ⊎ Keeps self.old.taken self.new.taken) }
+        ensures whole { OnOk result
+            (IsSent (bytes_of self.old.pending) (bytes_of self.new.pending) self.new.heard) }
     {
         if self.pending.is_empty()
             && let Ok(now) = Instant::now(self.rt)
@@ -258,8 +278,10 @@ impl<'a, R: Wait + Clock> PolledStream<'a, R> {
     }
 
     // Reads while pending output is written.
+    #[tactic(auto, using(crate::proofs::Polleds::keeps_written, crate::proofs::Polleds::keeps_read))]
     fn read_meanwhile(&mut self, buffer: &mut [u8]) -> ReadOutcome
-        ensures { Arrives None None buffer.new result }
+        ensures comes { Arrives None None buffer.new result }
+        ensures written { Keeps (written_of self.old) (written_of self.new) }
     {
         for _ in 0..u64::MAX {
             if let Err(Broken) = self.write_pending() {
@@ -313,6 +335,10 @@ struct RoomWait<'a, R: Wait + Clock> {
 }
 
 impl Duplex for TcpStream {
+    fn read_now(&mut self, buffer: &mut [u8]) -> ReadOutcome {
+        outcome(self.read(buffer))
+    }
+
     fn has_input(&self) -> bool {
         let mut byte = [0];
         match self.peek(&mut byte) {
@@ -324,7 +350,9 @@ impl Duplex for TcpStream {
 
 impl<R: Wait + Clock> RoomWait<'_, R> {
     // The next act after a write that found no room.
-    fn after_full(&self, has_input: bool) -> WriteNext {
+    fn after_full(&self, has_input: bool) -> WriteNext
+        ensures { result ≡ Pause → has_input ≡ true }
+    {
         if has_input && (self.reads || has_elapsed(self.rt, self.heard, SLOW_READ)) {
             return WriteNext::Pause;
         }
@@ -349,7 +377,11 @@ impl<R: Wait + Clock> Patience for RoomWait<'_, R> {
     }
 }
 
-impl<R: Wait + Clock> Stream for PolledStream<'_, R> {
+impl<R: Wait + Clock, D: Duplex> Stream for PolledStream<'_, R, D> {
+    ghost use Rattle.mq_serve.specs.Polled.{written_of};
+
+    ghost written = { λ s. written_of s };
+
     /// Reads the bytes that came, or waits for some. A call of another worker ends the wait. While
     /// output is left, it is written first.
     fn read(&mut self, buffer: &mut [u8]) -> ReadOutcome {

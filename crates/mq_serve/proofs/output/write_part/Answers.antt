@@ -1,6 +1,6 @@
 use Rattle.std.proofs.lemmas.List.{take_rest}
 use Rattle.mq_serve.proofs.Fronts.{front_more}
-use Rattle.mq_serve.proofs.output.write_front.Goals as goal
+use Rattle.mq_serve.proofs.output.write_part.Goals as goal
 
 pub loop-preserved : goal.loop-preserved
 loop-preserved g c =
