@@ -72,6 +72,26 @@ fn write_message<W: Write>(
     write_line(output, line.as_slice())
 }
 
+impl<R: Eprint> Lines<'_, R> {
+    // Says that the broker refused a subscription, if there is one at this place.
+    fn tell_refusal(&self, index: usize) {
+        let Some(request) = self.requests.get(index) else {
+            return;
+        };
+        let filter = request.filter.as_str();
+        let _ = eprintln!(self.rt;
+            "mqtt sub: the broker refused the subscription to '{filter}'; check the rights of the user."
+        );
+    }
+
+    // Says that the broker lost the session.
+    fn tell_loss(&self) {
+        let _ = eprintln!(self.rt;
+            "mqtt sub: the broker lost the session, so messages may be missing; subscribing anew."
+        );
+    }
+}
+
 impl<R: Clock + Print + Eprint> Printer for Lines<'_, R> {
     fn print(&mut self, message: &Message, id: Option<PacketId>) -> Result<(), RunError> {
         let envelope = Envelope {
@@ -89,19 +109,9 @@ impl<R: Clock + Print + Eprint> Printer for Lines<'_, R> {
         if self.is_quiet {
             return;
         }
-        let _ = match notice {
-            Notice::Refused(index) => match self.requests.get(index) {
-                Some(request) => {
-                    let filter = request.filter.as_str();
-                    eprintln!(self.rt;
-                        "mqtt sub: the broker refused the subscription to '{filter}'; check the rights of the user."
-                    )
-                }
-                None => Ok(()),
-            },
-            Notice::SessionLost => eprintln!(self.rt;
-                "mqtt sub: the broker lost the session, so messages may be missing; subscribing anew."
-            ),
-        };
+        match notice {
+            Notice::Refused(index) => self.tell_refusal(index),
+            Notice::SessionLost => self.tell_loss(),
+        }
     }
 }
