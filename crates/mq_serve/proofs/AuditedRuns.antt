@@ -1,8 +1,11 @@
 -- A worker that keeps receipts serves connections one after another.
-use Rattle.std.proofs.Common.{length-append, ◌≡◌, ℕ, ◌+◌, ◌*◌, List, [], ◌∷◌, ◌++◌, refl, sym, ap, subst, ◌∙◌, arith, append_assoc, append-nil}
+use Rattle.std.proofs.Common.{length-append, length, ◌≡◌, ◌≤◌, ℕ, ◌+◌, ◌*◌, Result, Ok, Err, IfOk, List, [], ◌∷◌, ◌++◌, refl, sym, ap, subst, ◌∙◌, arith, append_assoc, append-nil}
 use Rattle.std.specs.List.{AllByRecursion}
 use Rattle.mq_book.specs.declared.entry.Receipt.{Receipt}
+use Rattle.mq_book.specs.Pages.{WorkerView}
 use Rattle.mq_book.specs.Workers.{AuditedWorkerState, Worked}
+use Rattle.mq_book.specs.declared.work_end.WorkEnd.{WorkEnd}
+use Rattle.mq_serve.specs.Working.{HasWorked}
 
 -- receipts that name a worker, and more that name the same one
 named : (a b : ℕ) (rs ss : List Receipt) → b ≡ a → AllByRecursion (λ r. r.worker ≡ a) rs → AllByRecursion (λ r. r.worker ≡ b) ss
@@ -40,3 +43,20 @@ worked_some n d e f one two = record {
 pub worked_least : (n : ℕ) (d e : AuditedWorkerState) → Worked (2 * n) d e → Worked 0 d e
 worked_least n d e one =
     record { more = one.more; added = one.added; own = one.own; same = one.same; counted = one.counted; enough = omega arith }
+
+-- ---- the result of a worker
+
+abbrev pub share_of : AuditedWorkerState → WorkerView
+share_of d = record { worker = d.worker; count = d.count }
+
+-- the worker's steps are counted in its share
+pub kept_worked : (d e : AuditedWorkerState) (end : Result ℕ WorkEnd) → Worked 0 d e → IfOk end (λ n. Worked (2 * n) d e) → HasWorked (share_of d) (share_of e) end
+kept_worked d e (Ok n) some all = (some.same, omega (arith, some.counted), omega (arith, all.counted, all.enough))
+kept_worked d e (Err why) some none = (some.same, omega (arith, some.counted), tt)
+
+-- a worker that had no receipts has one for each step
+pub kept_receipts : (d e : AuditedWorkerState) → d.receipts ≡ [] → Worked 0 d e
+    → (e.count ≡ d.count + length e.receipts) × AllByRecursion (λ receipt. receipt.worker ≡ d.worker) e.receipts
+kept_receipts d e none some =
+    let all : some.more ≡ e.receipts = sym (some.added ∙ ap (λ (rs : List Receipt). rs ++ some.more) none) in
+    (subst (λ (rs : List Receipt). e.count ≡ d.count + length rs) all some.counted, subst (λ (rs : List Receipt). AllByRecursion (λ receipt. receipt.worker ≡ d.worker) rs) all some.own)

@@ -6,3 +6,4 @@ pub mod Accepting
 pub mod Pending
 pub mod Polled
 pub mod Calls
+pub mod Working

@@ -1,11 +1,12 @@
 //! The server: a shared broker, and the workers that serve its connections.
 
-ghost use Rattle.std.specs.Prelude.{◌≡◌, ◌⊎◌, ◌+◌, ◌<◌, ◌≤◌, All, Err, IfErr, IfOk, IfSome, OnOk, None, Some, length, map, vec_len};
+ghost use Rattle.std.specs.Prelude.{◌≡◌, ◌⊎◌, ◌+◌, ◌<◌, ◌≤◌, ℕ, [], All, Err, IfErr, IfOk, IfSome, OnOk, None, Some, length, map, vec_len};
 ghost use Rattle.std.specs.IoError.{os_error_kind};
 ghost use Rattle.std.specs.List.{sum_by};
 ghost use Rattle.mq_book.specs.Pages.{below};
 ghost use Rattle.mq_book.specs.declared.work_end.WorkEnd.{WorkEnd};
 ghost use Rattle.mq_serve.specs.Ends.{end_of_work, first_stop, retention_limit, stop_of};
+ghost use Rattle.mq_serve.specs.Working.{AreReceipts, HasWorked};
 ghost use Rattle.mq_serve.specs.declared.serve_end.ServeEnd.TheVariants.{Memory};
 
 use crate::acceptor::{Acceptor, WorkerAcceptor};
@@ -144,7 +145,10 @@ impl<L: Ledger> Server<L> {
         share: Share<L>,
         poll: &'x Mutex<WorkerPoll>,
         buffer: &mut [u8],
-    ) -> WorkerResult<L> {
+    ) -> WorkerResult<L>
+        ensures worked { HasWorked share result.share result.end }
+        ensures receipts { result.receipts.items ≡ [] }
+    {
         let (on_full, observer) = (OnFull::Checkpoint, WakeOthers(&self.wakers));
         let turns = ReadTurns::new(&self.wakers, share.worker());
         let mut worker = Worker::new(rt, &self.shared, share, on_full, observer);
@@ -159,13 +163,18 @@ impl<L: Ledger> Server<L> {
     }
 
     // The same, with receipts.
+    #[tactic(auto, using(crate::proofs::AuditedRuns::kept_worked, crate::proofs::AuditedRuns::kept_receipts))]
     fn serve_keeping<'x, R: Wait + Clock>(
         &'x self,
         rt: &'x R,
         share: Share<L>,
         poll: &'x Mutex<WorkerPoll>,
         buffer: &mut [u8],
-    ) -> WorkerResult<L> {
+    ) -> WorkerResult<L>
+        ensures worked { HasWorked share result.share result.end }
+        ensures receipts { (limit : ℕ)
+            → AreReceipts (Retention.Kept limit) share result.share result.receipts.items }
+    {
         let alloc = self.alloc;
         let (on_full, observer) = (OnFull::Stop, WakeOthers(&self.wakers));
         let mut worker = AuditedWorker::new(rt, alloc, &self.shared, share, on_full, observer);
@@ -206,6 +215,11 @@ impl<L: Ledger> Server<L> {
 }
 
 impl<L: Ledger> Workers for Server<L> {
+    ghost use Rattle.mq_serve.specs.Working.{AreReceipts, HasWorked};
+
+    ghost does = { λ server part outcome. HasWorked part.share outcome.share outcome.end
+        × AreReceipts server.retention part.share outcome.share outcome.receipts.items };
+
     type Part = WorkerStart<L>;
 
     type Outcome = WorkerResult<L>;
