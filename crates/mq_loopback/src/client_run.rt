@@ -9,6 +9,7 @@ ghost use Rattle.mq_client.specs.Publishing.{AskedAll, AskedMore};
 ghost use Rattle.mq_loopback.specs.Clients.{Collected, IsNewClient, Published, Receives, Subscribed, asks_of, message_of};
 
 use crate::client::{Collector, Publisher};
+use crate::start_barrier::Start;
 use mq_client::{ClientError, CollectGoal, NoSaver, Peer, begin};
 use mq_decode::Limits;
 use mq_end::{ClientConfig, ClientEnd, Happening};
@@ -22,6 +23,10 @@ const MOST_PACKET: u32 = 1_048_576;
 
 /// The most packet identifiers in use of a session (2.3.1).
 const CAPACITY: u16 = 100;
+
+/// A collector's subscription was granted. Only [`subscribe`] makes one.
+#[derive(Drop)]
+pub(crate) struct Grant(());
 
 /// A client end of this identifier, which never needs to keep its connection alive (3.1.2.10).
 pub(crate) fn client_end(alloc: Global, name: &Text) -> Result<ClientEnd, AllocError>
@@ -58,7 +63,7 @@ pub(crate) fn subscribe<S: Stream, C: Clock>(
     peer: &mut Peer<S, C, NoSaver>,
     collector: &Collector,
     messages: &mut Vec<Message>,
-) -> Result<(), ClientError>
+) -> Result<Grant, ClientError>
     ensures { OnOk result
         (Subscribed peer.old peer.new collector.now messages.old.items messages.new.items) }
 {
@@ -70,7 +75,7 @@ pub(crate) fn subscribe<S: Stream, C: Clock>(
     let mut told = Vec::new(alloc);
     begin(alloc, peer, &wish, true, &mut told)?;
     keep_handed(messages, told)?;
-    Ok(())
+    Ok(Grant(()))
 }
 
 // Keeps delivered messages until there are enough and all are released.
@@ -166,6 +171,7 @@ fn publish_acknowledged<S: Stream, C: Clock>(
 pub(crate) fn publish<S: Stream, C: Clock>(
     peer: &mut Peer<S, C, NoSaver>,
     publisher: &Publisher,
+    _start: Start,
 ) -> Result<(), ClientError>
     ensures { OnOk result (Published peer.old peer.new publisher.now) }
 {

@@ -124,8 +124,8 @@ impl<'a> ClientThreads<'a> {
             IsRoleDone (Role.Collector collector.now) player.old player.new messages.items) }
     {
         let mut messages = Vec::new(self.alloc);
-        subscribe(self.alloc, player, collector, &mut messages)?;
-        self.start.count(rt);
+        let grant = subscribe(self.alloc, player, collector, &mut messages)?;
+        self.start.count(rt, grant);
         collect(player, collector, &mut messages)?;
         Ok(messages)
     }
@@ -145,10 +145,10 @@ impl<'a> ClientThreads<'a> {
         match &client.role {
             Role::Collector(collector) => Ok(Some(self.collect(rt, player, collector)?)),
             Role::Publisher(publisher) => {
-                if !self.start.wait(rt) {
+                let Some(start) = self.start.wait(rt) else {
                     return Ok(None);
-                }
-                publish(player, publisher)?;
+                };
+                publish(player, publisher, start)?;
                 Ok(Some(Vec::new(self.alloc)))
             }
         }

@@ -25,5 +25,4 @@ pub use crate::program::{loopback, loopback_file, print_result, run};
 pub use crate::read::{ClientsFault, read_clients};
 pub use crate::rig::{RunError, RunResult, play};
 pub use crate::sort::{all_ordered, ordered};
-pub use crate::start_barrier::StartBarrier;
 pub use crate::verdict::{Verdict, judge};

@@ -1,10 +1,17 @@
 //! When publishers start.
 
-ghost use Rattle.std.specs.Prelude.{◌≡◌, ◌↔◌, ◌-◌, IsTrue, None};
-ghost use Rattle.mq_loopback.specs.Barrier.{IsPending, first_fault};
+ghost use Rattle.std.specs.Prelude.{◌≡◌, ◌↔◌, ◌-◌, IsTrue, None, is_some};
+ghost use Rattle.mq_loopback.specs.Barrier.{IsPending, first_fault, may_start};
 
+use crate::client_run::Grant;
 use mq_client::ClientError;
 use std::sync::{Condvar, Mutex, Wait};
+
+/// Leave to publish: all collectors have subscribed, and no client has a fault.
+///
+/// Only a barrier gives it.
+#[derive(Drop)]
+pub(crate) struct Start(());
 
 // How many collectors are not subscribed yet, and the first fault of a client.
 #[derive(Drop)]
@@ -31,6 +38,17 @@ impl Waiting {
         self.left > 0 && self.fault.is_none()
     }
 
+    // Leave to publish, if nothing is pending and no client has a fault.
+    fn start(&self) -> Option<Start>
+        ensures { is_some result ≡ may_start self.now }
+    {
+        if self.left == 0 && self.fault.is_none() {
+            Some(Start(()))
+        } else {
+            None
+        }
+    }
+
     // One collector more is subscribed.
     fn count(&mut self)
         ensures { self.new ≡ record self.old { left = self.old.left - 1 } }
@@ -50,14 +68,14 @@ impl Waiting {
 
 /// Publishers wait here until every collector has subscribed, or a client has a fault.
 #[derive(Drop)]
-pub struct StartBarrier {
+pub(crate) struct StartBarrier {
     waiting: Mutex<Waiting>,
     changed: Condvar,
 }
 
 impl StartBarrier {
     /// A barrier for this many collectors.
-    pub fn after(collectors: usize) -> StartBarrier {
+    pub(crate) fn after(collectors: usize) -> StartBarrier {
         StartBarrier {
             waiting: Mutex::new(Waiting::new(collectors)),
             changed: Condvar::new(),
@@ -65,27 +83,27 @@ impl StartBarrier {
     }
 
     /// A collector is subscribed.
-    pub fn count<R: Wait>(&self, rt: &R) {
+    pub(crate) fn count<R: Wait>(&self, rt: &R, _grant: Grant) {
         self.waiting.lock(rt).count();
         self.changed.notify_all();
     }
 
     /// A client has a fault.
-    pub fn call_off<R: Wait>(&self, rt: &R, fault: ClientError) {
+    pub(crate) fn call_off<R: Wait>(&self, rt: &R, fault: ClientError) {
         self.waiting.lock(rt).call_off(fault);
         self.changed.notify_all();
     }
 
-    /// Waits. Returns whether publishers must start; they must not if a client has a fault.
-    pub fn wait<R: Wait>(&self, rt: &R) -> bool {
+    /// Waits. Returns `None` if publishers must not start, because a client has a fault.
+    pub(crate) fn wait<R: Wait>(&self, rt: &R) -> Option<Start> {
         let waiting = self
             .changed
             .wait_while(rt, self.waiting.lock(rt), |waiting| waiting.is_pending());
-        waiting.fault.is_none()
+        waiting.start()
     }
 
     /// The first fault of a client, if any had one.
-    pub fn into_fault(self) -> Option<ClientError> {
+    pub(crate) fn into_fault(self) -> Option<ClientError> {
         let StartBarrier {
             waiting,
             changed: _,
