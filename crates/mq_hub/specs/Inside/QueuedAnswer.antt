@@ -1,5 +1,5 @@
 -- The answer to a packet, which is queued before copies are placed.
-use Rattle.std.specs.Prelude.{ℕ, ◌-◌, ◌==◌, Option, Some, None, if◌then◌else◌}
+use Rattle.std.specs.Prelude.{ℕ, ◌==◌, Option, Some, None, if◌then◌else◌}
 use Rattle.mq_packet.specs.declared.publish.Delivery.{Delivery}
 use Rattle.mq_hub.specs.declared.publish.queued_answer.QueuedAnswer.{QueuedAnswer}
 
