@@ -1,12 +1,13 @@
 //! One session.
 
-ghost use Rattle.std.specs.Prelude.{◌≡◌, ◌&&◌, ℕ, List, [], ◌∷◌, length, nat_le, true, IfOk, OnOk};
+ghost use Rattle.std.specs.Prelude.{◌≡◌, ◌&&◌, ℕ, List, [], ◌∷◌, length, nat_le, true, IfOk, IfSome, OnOk};
 ghost use Rattle.std.specs.List.{AllByRecursion};
 ghost use Rattle.mq_end.specs.End.{is_up};
 ghost use Rattle.mq_end.specs.Ready.{HasRise, HasRoom};
 ghost use Rattle.mq_packet.specs.declared.connect.Connect.{Connect};
 ghost use Rattle.mq_packet.specs.declared.message.Message.{Message};
 ghost use Rattle.mq_packet.specs.Publication.{fits_delivery};
+ghost use Rattle.mq_flow.specs.Sender.{IsFirstFree};
 ghost use Rattle.mq_end.specs.Receiving.{told_of};
 ghost use Rattle.mq_tables.specs.Calls.{IsAllowed, Serves, publish_call};
 ghost use Rattle.mq_tables.specs.Numbers.{stored_at};
@@ -224,7 +225,9 @@ pub fn free_of(end: &ServerEnd) -> usize
 }
 
 /// Returns the identifier of the next message of an end (2.3.1). `None` if none is free.
-pub(crate) fn next_id(end: &ServerEnd) -> Option<PacketId> {
+pub(crate) fn next_id(end: &ServerEnd) -> Option<PacketId>
+    ensures { IfSome result (IsFirstFree end.now.end.last end.now.end.book) }
+{
     match end.session() {
         Some(session) => session.sender.next_id(),
         None => None,

@@ -5,6 +5,7 @@ ghost use Rattle.std.specs.HashMap.{get, spare};
 ghost use Rattle.std.specs.List.{AllByRecursion, prefix_len};
 ghost use Rattle.std.specs.Str.{bytes_eq};
 ghost use Rattle.std.specs.Option.{option_copied};
+ghost use Rattle.mq_flow.specs.Sender.{IsFirstFree};
 ghost use Rattle.mq_route.specs.Hub.{key_of};
 ghost use Rattle.mq_tables.specs.Numbers.{all_stored};
 ghost use Rattle.mq_tables.specs.Output.{output_of};
@@ -264,7 +265,11 @@ impl Sessions {
     }
 
     /// Returns the identifier of the next message of a session (2.3.1). `None` if none is free.
-    pub fn next_id(&self, key: ClientKey) -> Option<PacketId> {
+    pub fn next_id(&self, key: ClientKey) -> Option<PacketId>
+        ensures first { IfSome (session_at key self.now.list)
+            (λ t. IfSome result (IsFirstFree t.end.end.last t.end.end.book)) }
+        ensures none { session_at key self.now.list ≡ None → result ≡ None }
+    {
         match self.get(key) {
             Some(session) => next_id(&session.end),
             None => None,
