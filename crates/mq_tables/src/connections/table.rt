@@ -304,8 +304,8 @@ impl Connections {
         }
     }
 
-    /// Returns the index of a connection, or 0 if it is unknown. It is a hint for the calls that take
-    /// an index, which return the same for any other one.
+    /// Returns the index of a connection, or 0 if it is unknown. It is a hint for the calls that
+    /// take an index, which return the same for any other one.
     pub fn place_of(&self, conn: Conn) -> usize {
         self.by_conn.get_index_of(&conn).unwrap_or(0)
     }
