@@ -1,8 +1,7 @@
 //! A worker at the shared broker that keeps receipts.
 
 ghost use Rattle.std.specs.Prelude.{◌≡◌, [], OnErr, OnOk};
-ghost use Rattle.mq_book.specs.Connection.{Breaks, Closes, outside};
-ghost use Rattle.mq_book.specs.Workers.{AuditedStep, Worked};
+ghost use Rattle.mq_book.specs.Prelude.{Breaks, Closes, outside, AuditedStep, Worked};
 
 use crate::connection::{Stepper, serve_connection};
 use crate::entry::Receipt;
@@ -93,7 +92,7 @@ impl<'a, L: Ledger, R: Wait, H: StepObserver> AuditedWorker<'a, L, R, H> {
 }
 
 impl<'a, L: Ledger, R: Wait, H: StepObserver> Stepper for AuditedWorker<'a, L, R, H> {
-    ghost use Rattle.mq_book.specs.Workers.{AuditedStep, StopsFor};
+    ghost use Rattle.mq_book.specs.Prelude.{AuditedStep, StopsFor};
 
     ghost steps_to = { AuditedStep };
 

@@ -1,10 +1,7 @@
 //! A broker with a journal of its steps.
 
 ghost use Rattle.std.specs.Prelude.{◌≡◌, ◌+◌, ◌<◌, ◌∷◌, [], ◌++◌, ◌↔◌, length, None, IfOk, IfErr, IfSome, IsSome, IsTrue, OnOk, OnErr};
-ghost use Rattle.mq_route.specs.Step.{HubStep, event_refusal};
-ghost use Rattle.mq_book.specs.declared.work_end.OnFull.TheVariants.{Checkpoint};
-ghost use Rattle.mq_book.specs.Pages.{IsDue, JournalledStep, RefusedAs, RefusedOn, after_checkpoint, checkpointed, journal_of};
-ghost use Rattle.mq_book.specs.Replays.{Replay};
+ghost use Rattle.mq_book.specs.Prelude.{HubStep, event_refusal, Checkpoint, IsDue, JournalledStep, RefusedAs, RefusedOn, after_checkpoint, checkpointed, journal_of, Replay};
 
 use crate::entry::{Entry, Receipt};
 use crate::entry_log::EntryLog;

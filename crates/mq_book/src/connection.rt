@@ -1,11 +1,7 @@
 //! A worker serves one connection (4.2).
 
 ghost use Rattle.std.specs.Prelude.{◌≡◌, None, Some, true, false, IfOk, IfErr, OnOk, OnErr};
-ghost use Rattle.std.specs.Io.KnownBytes.{Keeps};
-ghost use Rattle.mq_route.specs.declared.event.HubEvent.{HubEvent};
-ghost use Rattle.mq_route.specs.declared.reply.HubReply.{HubReply};
-ghost use Rattle.mq_book.specs.declared.work_end.WorkEnd.{WorkEnd};
-ghost use Rattle.mq_book.specs.Connection.{Breaks, Closes, Collects, Ends, Makes, Stops, Turned, bytes_events, is_known, outside, tick_events};
+ghost use Rattle.mq_book.specs.Prelude.{Keeps, HubEvent, HubReply, WorkEnd, Breaks, Closes, Collects, Ends, Makes, Stops, Turned, bytes_events, is_known, outside, tick_events};
 
 use crate::reply::SharedReply;
 use crate::work_end::WorkEnd;

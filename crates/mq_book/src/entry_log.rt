@@ -1,7 +1,7 @@
 //! The entries of a journal, and their estimated size.
 
 ghost use Rattle.std.specs.Prelude.{◌≡◌, ◌<◌, ◌-◌, ◌^◌, ◌∷◌, [], ◌++◌, length, min, OnOk};
-ghost use Rattle.mq_book.specs.Pages.{weight, weight_of};
+ghost use Rattle.mq_book.specs.Prelude.{weight, weight_of};
 
 use crate::entry::Entry;
 use mq_route::HubEvent;

@@ -1,8 +1,7 @@
 //! Observers of a worker's steps.
 
 ghost use Rattle.std.specs.Prelude.{List, Option, None};
-ghost use Rattle.mq_route.specs.declared.reply.HubReply.{HubReply};
-ghost use Rattle.mq_book.specs.Workers.{Observes};
+ghost use Rattle.mq_book.specs.Prelude.{HubReply, Observes};
 
 use mq_route::HubReply;
 use std::sync::Wait;

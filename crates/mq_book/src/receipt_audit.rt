@@ -1,7 +1,7 @@
 //! Compares receipts with a journal.
 
 ghost use Rattle.std.specs.Prelude.{◌≡◌, ◌≤◌, ◌↔◌, IsTrue};
-ghost use Rattle.mq_book.specs.Receipts.{Stand, StandsAt};
+ghost use Rattle.mq_book.specs.Prelude.{Stand, StandsAt};
 
 use crate::entry::{Entry, Receipt};
 use crate::journal::Journal;

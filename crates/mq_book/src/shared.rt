@@ -1,9 +1,7 @@
 //! A book that several workers share, under one lock.
 
 ghost use Rattle.std.specs.Prelude.{◌≡◌, ◌+◌, ◌<◌, ◌≤◌, [], All, IfOk, IfSome, length, map, vec_len};
-ghost use Rattle.std.specs.List.{sum_by};
-ghost use Rattle.mq_route.specs.Hub.{new_hub};
-ghost use Rattle.mq_book.specs.Pages.{below};
+ghost use Rattle.mq_book.specs.Prelude.{sum_by, new_hub, below};
 
 use crate::book::Book;
 use crate::share::Share;

@@ -20,7 +20,7 @@ pub enum WorkEnd {
 
 impl From<BookRefusal> for WorkEnd {
     ghost use Rattle.std.specs.Prelude.{◌≡◌};
-    ghost use Rattle.mq_book.specs.Ends.{end_of};
+    ghost use Rattle.mq_book.specs.Prelude.{end_of};
 
     ghost from_gives = { λ refusal end. end ≡ end_of refusal };
 

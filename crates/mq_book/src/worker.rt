@@ -74,7 +74,7 @@ impl<'a, L: Ledger, R: Wait, H: StepObserver> Worker<'a, L, R, H> {
 }
 
 impl<'a, L: Ledger, R: Wait, H: StepObserver> Stepper for Worker<'a, L, R, H> {
-    ghost use Rattle.mq_book.specs.Workers.{StopsFor, WorkerStep};
+    ghost use Rattle.mq_book.specs.Prelude.{StopsFor, WorkerStep};
 
     ghost steps_to = { WorkerStep };
 

@@ -1,7 +1,7 @@
 //! The listener of a broker.
 
 ghost use Rattle.std.specs.Prelude.{◌≢◌, IfErr};
-ghost use Rattle.mq_broker.specs.declared.end.BrokerEnd.TheVariants.{PacketLimit};
+ghost use Rattle.mq_broker.specs.Prelude.{PacketLimit};
 
 use crate::end::BrokerEnd;
 use mio::net::{TcpListener, TcpStream};

@@ -1,9 +1,7 @@
 //! Reasons of a broker to end.
 
 ghost use Rattle.std.specs.Prelude.{◌≡◌, ◌≢◌};
-ghost use Rattle.std.specs.IoError.{error_kind};
-ghost use Rattle.mq_broker.specs.End.{end_status};
-ghost use Rattle.mq_broker.specs.declared.end.BrokerEnd.TheVariants.{PacketLimit};
+ghost use Rattle.mq_broker.specs.Prelude.{error_kind, end_status, PacketLimit};
 
 use mq_loop::CommitFailure;
 use std::alloc::AllocError;
@@ -82,7 +80,7 @@ impl BrokerEnd {
 
 impl From<AllocError> for BrokerEnd {
     ghost use Rattle.std.specs.Prelude.{◌≡◌};
-    ghost use Rattle.mq_broker.specs.declared.end.BrokerEnd.TheVariants.{Memory};
+    ghost use Rattle.mq_broker.specs.Prelude.{Memory};
 
     ghost from_gives = { λ _ end. end ≡ Memory };
 
@@ -93,8 +91,7 @@ impl From<AllocError> for BrokerEnd {
 
 impl From<CommitFailure> for BrokerEnd {
     ghost use Rattle.std.specs.Prelude.{◌≡◌, ◌≢◌};
-    ghost use Rattle.mq_broker.specs.Failures.{end_of_commit};
-    ghost use Rattle.mq_broker.specs.declared.end.BrokerEnd.TheVariants.{PacketLimit};
+    ghost use Rattle.mq_broker.specs.Prelude.{end_of_commit, PacketLimit};
 
     ghost from_gives = { λ why end. (end ≡ end_of_commit why) × (end ≢ PacketLimit) };
 

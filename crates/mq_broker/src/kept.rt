@@ -1,10 +1,7 @@
 //! The broker of an event loop, with a journal.
 
 ghost use Rattle.std.specs.Prelude.{◌≡◌, ◌==◌, [], length, true, OnOk};
-ghost use Rattle.mq_broker.specs.Failures.{next_failure};
-ghost use Rattle.mq_broker.specs.Snapshots.{NotesNext};
-ghost use Rattle.mq_loop.specs.Brokers.{Continues};
-ghost use Rattle.mq_store.specs.Continued.{HasNext, IsFull};
+ghost use Rattle.mq_broker.specs.Prelude.{next_failure, NotesNext, Continues, HasNext, IsFull};
 
 use mq_durable::{CommitError, Durable, StepRefusal};
 use mq_file::JournalFile;

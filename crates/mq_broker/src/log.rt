@@ -1,12 +1,9 @@
 //! The log of a broker: one line for each occurrence.
 
 ghost use Rattle.std.specs.Prelude.{◌≡◌, ◌≢◌, OnOk};
+ghost use Rattle.mq_broker.specs.Prelude.{RefusalCode, line_text, closed_text, refused_text, AreReported, is_verbose};
 ghost use Rattle.mq_end.specs.declared.reason.CloseReason.TheVariants as ends;
-ghost use Rattle.mq_packet.specs.declared.connack.RefusalCode.{RefusalCode};
 ghost use Rattle.mq_route.specs.declared.close.HubClose.TheVariants as closes;
-ghost use Rattle.mq_status.specs.Log.{line_text};
-ghost use Rattle.mq_broker.specs.Lines.{closed_text, refused_text};
-ghost use Rattle.mq_broker.specs.Snapshots.{AreReported, is_verbose};
 
 use crate::peers::{Peer, Peers};
 use crate::snapshot::write_snapshots;

@@ -1,7 +1,7 @@
 //! The messages that clients missed.
 
 ghost use Rattle.std.specs.Prelude.{◌≡◌, ◌≢◌, ◌↔◌, [], IsTrue};
-ghost use Rattle.mq_broker.specs.Missed.{CountsAct, CountsOne, amount};
+ghost use Rattle.mq_broker.specs.Prelude.{CountsAct, CountsOne, amount};
 
 use mq_route::Act;
 use mq_topic::ClientKey;

@@ -1,7 +1,7 @@
 //! Reasons why a broker can't be recovered.
 
 ghost use Rattle.std.specs.Prelude.{◌≡◌};
-ghost use Rattle.mq_broker.specs.End.{open_status};
+ghost use Rattle.mq_broker.specs.Prelude.{open_status};
 
 use mq_store::StoreError;
 use thiserror::Error;

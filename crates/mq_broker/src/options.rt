@@ -1,9 +1,7 @@
 //! Options of a broker.
 
 ghost use Rattle.std.specs.Prelude.{◌≡◌, ◌↔◌, None, Some, IfSome, IsSome, max};
-ghost use Rattle.mq_decode.specs.Limits.{strict};
-ghost use Rattle.mq_broker.specs.Configuration.{configuration, most_owed};
-ghost use Rattle.mq_broker.specs.End.{IsPacketLimit};
+ghost use Rattle.mq_broker.specs.Prelude.{strict, configuration, most_owed, IsPacketLimit};
 
 use mq_decode::Limits;
 use mq_end::BoxedList;

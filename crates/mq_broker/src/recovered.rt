@@ -1,12 +1,9 @@
 //! A broker that is kept in a folder.
 
 ghost use Rattle.std.specs.Prelude.{◌≡◌, ◌≢◌, length, IfErr, IfOk};
-ghost use Rattle.mq_broker.specs.Configuration.{configuration};
-ghost use Rattle.mq_broker.specs.End.{IsPacketLimit};
+ghost use Rattle.mq_broker.specs.Prelude.{configuration, IsPacketLimit, MayBegin, IsFound};
 ghost use Rattle.mq_broker.specs.declared.end.BrokerEnd.TheVariants as ends;
 ghost use Rattle.mq_broker.specs.declared.open_error.OpenError.TheVariants as errors;
-ghost use Rattle.mq_route.specs.Begun.{MayBegin};
-ghost use Rattle.mq_store.specs.Restoring.{IsFound};
 
 use crate::end::BrokerEnd;
 use crate::kept::Kept;

@@ -1,9 +1,7 @@
 //! The loop of a broker over sockets.
 
 ghost use Rattle.std.specs.Prelude.{◌≡◌, ◌≢◌, ◌↔◌, [], IfErr, OnErr};
-ghost use Rattle.mq_broker.specs.End.{IsPacketLimit};
-ghost use Rattle.mq_broker.specs.declared.end.BrokerEnd.TheVariants.{PacketLimit};
-ghost use Rattle.mq_loop.specs.Rounds.{IsReached};
+ghost use Rattle.mq_broker.specs.Prelude.{IsPacketLimit, PacketLimit, IsReached};
 
 mod accepting;
 mod answering;

@@ -1,7 +1,7 @@
 //! The addresses and limits of a broker.
 
 ghost use Rattle.std.specs.Prelude.{◌≡◌};
-ghost use Rattle.mq_broker.specs.Configuration.{most_owed};
+ghost use Rattle.mq_broker.specs.Prelude.{most_owed};
 
 use crate::options::BrokerOptions;
 use mq_decode::Limits;

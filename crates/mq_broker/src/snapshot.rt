@@ -1,8 +1,7 @@
 //! The lines of the log about snapshots.
 
 ghost use Rattle.std.specs.Prelude.{◌≡◌, OnOk, flat_map};
-ghost use Rattle.std.specs.Io.KnownBytes.{Appends};
-ghost use Rattle.mq_broker.specs.Snapshots.{snapshot_line};
+ghost use Rattle.mq_broker.specs.Prelude.{Appends, snapshot_line};
 
 use mq_loop::SnapshotNote;
 use std::io;

@@ -1,7 +1,7 @@
 //! The port on which the broker serves its metrics over HTTP.
 
 ghost use Rattle.std.specs.Prelude.{◌≢◌, ◌≤◌, length, IfErr};
-ghost use Rattle.mq_broker.specs.declared.end.BrokerEnd.TheVariants.{PacketLimit};
+ghost use Rattle.mq_broker.specs.Prelude.{PacketLimit};
 
 use crate::acceptor::listen_at;
 use crate::end::BrokerEnd;

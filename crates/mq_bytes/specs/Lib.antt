@@ -1,6 +1,7 @@
-pub mod Checks
-pub mod Places
 pub mod Arguments
+pub mod Buffers
+pub mod Checks
 pub mod Connects
 pub mod Items
-pub mod Buffers
+pub mod Places
+pub mod Prelude

@@ -1,9 +1,7 @@
 //! Writing into a caller's buffer.
 
 ghost use Rattle.std.specs.Prelude.{◌≡◌, ◌+◌, ◌++◌, ◌≤◌, ◌<◌, ◌^◌, ◌∷◌, ℕ, List, length, take, IfOk, OnOk, OnErr, IsErrOf};
-ghost use Rattle.mq_wire.specs.Length.{length_bytes};
-ghost use Rattle.mq_packet.specs.Encoding.{encoded_size};
-ghost use Rattle.mq_bytes.specs.Buffers.{Filled};
+ghost use Rattle.mq_bytes.specs.Prelude.{length_bytes, encoded_size, Filled};
 
 use crate::fault::EncodeFault;
 use mq_wire::{length_laws, put_varlen};

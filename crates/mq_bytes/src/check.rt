@@ -1,10 +1,7 @@
 //! Tests of topics and saved sessions.
 
 ghost use Rattle.std.specs.Prelude.{◌≡◌, ◌↔◌, ◌<◌, false, true, length, IsOk, IsTrue, IfOk, IfErr, IfSome, IsSome};
-ghost use Rattle.mq_wire.specs.Text.{IsText};
-ghost use Rattle.mq_topic.specs.Topic.{IsTopicFilter, IsTopicName};
-ghost use Rattle.mq_topic.specs.Match.{Match};
-ghost use Rattle.mq_bytes.specs.Checks.{IsRefused, IsSavedSession};
+ghost use Rattle.mq_bytes.specs.Prelude.{IsText, IsTopicFilter, IsTopicName, Match, IsRefused, IsSavedSession};
 
 use crate::fault::CheckFault;
 use mq_flow::{LoadError, Saved};

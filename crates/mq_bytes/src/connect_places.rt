@@ -1,8 +1,7 @@
 //! The places of the fields of a CONNECT (3.1).
 
 ghost use Rattle.std.specs.Prelude.{◌≡◌, ◌+◌, length};
-ghost use Rattle.mq_packet.specs.Encoding.{connect_fields, login_fields, password_fields, will_fields};
-ghost use Rattle.mq_bytes.specs.Places.{Lies, ShowsConnect, ShowsLogin, ShowsPassword, ShowsWill};
+ghost use Rattle.mq_bytes.specs.Prelude.{connect_fields, login_fields, password_fields, will_fields, Lies, ShowsConnect, ShowsLogin, ShowsPassword, ShowsWill};
 
 use crate::front_fields::bare;
 use crate::places::{Field, PacketFields};

@@ -2,9 +2,7 @@
 //! bytes written; those behind them are unchanged. On `Err` the buffer is unchanged.
 
 ghost use Rattle.std.specs.Prelude.{◌≡◌, ◌+◌, ◌<◌, ◌≤◌, ◌^◌, ◌++◌, length, IfOk};
-ghost use Rattle.mq_wire.specs.Number.{number};
-ghost use Rattle.mq_bytes.specs.Arguments.{IsAcknowledgementOf, IsBareOf};
-ghost use Rattle.mq_bytes.specs.Buffers.{EncodesParts, Gives};
+ghost use Rattle.mq_bytes.specs.Prelude.{number, IsAcknowledgementOf, IsBareOf, EncodesParts, Gives};
 
 use crate::buffer::{begin, put_all};
 use crate::fault::EncodeFault;

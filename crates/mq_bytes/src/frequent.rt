@@ -1,17 +1,7 @@
 //! The most frequent packets at the front of a buffer, found without a view of them.
 
 ghost use Rattle.std.specs.Prelude.{◌≡◌, ◌+◌, ◌*◌, ◌≤◌, ◌++◌, ◌||◌, ℕ, List, length, drop, slice_range, true, IfSome};
-ghost use Rattle.std.specs.List.{list_any};
-ghost use Rattle.mq_wire.specs.Length.{Length};
-ghost use Rattle.mq_wire.specs.Text.{counted, is_special};
-ghost use Rattle.mq_topic.specs.Qos.{qos_number};
-ghost use Rattle.mq_topic.specs.Topic.{IsTopicName, is_wildcard};
-ghost use Rattle.mq_packet.specs.Encoding.{bit, delivery_fields, publish_fields};
-ghost use Rattle.mq_packet.specs.Identifier.{IsIdentifier};
-ghost use Rattle.mq_packet.specs.Publication.{Publication, fits_delivery};
-ghost use Rattle.mq_decode.specs.Limits.{Bounds};
-ghost use Rattle.mq_bytes.specs.declared.places.Front.{Front};
-ghost use Rattle.mq_bytes.specs.Places.{IsLocated, Lies, ShowsPublish, dup_of};
+ghost use Rattle.mq_bytes.specs.Prelude.{list_any, Length, counted, is_special, qos_number, IsTopicName, is_wildcard, bit, delivery_fields, publish_fields, IsIdentifier, Publication, fits_delivery, Bounds, Front, IsLocated, Lies, ShowsPublish, dup_of};
 
 use crate::front_fields::{bare, delivery_parts, numbered};
 use crate::places::{Field, PacketFields};

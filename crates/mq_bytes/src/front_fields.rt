@@ -1,10 +1,7 @@
 //! The packet at the front of a buffer, with the places of its fields.
 
 ghost use Rattle.std.specs.Prelude.{◌≡◌, ◌+◌, ◌++◌, ◌∷◌, ◌≤◌, ℕ, List, Bool, length, false};
-ghost use Rattle.mq_wire.specs.Length.{LengthUnder};
-ghost use Rattle.mq_packet.specs.Encoding.{delivery_fields, fields, publish_fields};
-ghost use Rattle.mq_decode.specs.Views.{packet_of};
-ghost use Rattle.mq_bytes.specs.Places.{IsLocated, Lies, Shows, ShowsConnAck, ShowsList, ShowsNumber, ShowsPublish, dup_of, identifier_of};
+ghost use Rattle.mq_bytes.specs.Prelude.{LengthUnder, delivery_fields, fields, publish_fields, packet_of, IsLocated, Lies, Shows, ShowsConnAck, ShowsList, ShowsNumber, ShowsPublish, dup_of, identifier_of};
 
 use crate::connect_places::connect_fields;
 use crate::frequent::locate_frequent;

@@ -1,9 +1,7 @@
 //! Tests of the encoded lists of SUBSCRIBE, SUBACK and UNSUBSCRIBE (3.8.3, 3.9.3, 3.10.3).
 
 ghost use Rattle.std.specs.Prelude.{◌≡◌, ◌+◌, ◌≤◌, ◌<◌, ◌++◌, ◌↔◌, ℕ, List, Some, length, take, IfSome, IsTrue};
-ghost use Rattle.mq_wire.specs.Text.{counted};
-ghost use Rattle.mq_topic.specs.Topic.{IsTopicFilter};
-ghost use Rattle.mq_bytes.specs.Items.{AreItems, IsItem};
+ghost use Rattle.mq_bytes.specs.Prelude.{counted, IsTopicFilter, AreItems, IsItem};
 
 use mq_packet::SubAckCode;
 use mq_topic::{Qos, is_topic_filter};

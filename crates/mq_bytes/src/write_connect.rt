@@ -1,13 +1,7 @@
 //! The encoding of CONNECT into a caller's buffer (3.1).
 
 ghost use Rattle.std.specs.Prelude.{◌≡◌, ◌↔◌, ◌+◌, ◌*◌, ◌<◌, ◌≤◌, ◌^◌, ◌∷◌, ◌++◌, ℕ, List, true, length, IsTrue, IfNone, IfOk, IfSome};
-ghost use Rattle.mq_wire.specs.Number.{number};
-ghost use Rattle.mq_wire.specs.Text.{IsText};
-ghost use Rattle.mq_topic.specs.Qos.{qos_number};
-ghost use Rattle.mq_packet.specs.Encoding.{bit, protocol};
-ghost use Rattle.mq_bytes.specs.Arguments.{IsConnectOf, IsLoginOf, IsWillOf};
-ghost use Rattle.mq_bytes.specs.Buffers.{EncodesParts, Filled, Gives};
-ghost use Rattle.mq_bytes.specs.Connects.{LoginWith, NoLogin, NoWill, WillWith, counted_if};
+ghost use Rattle.mq_bytes.specs.Prelude.{number, IsText, qos_number, bit, protocol, IsConnectOf, IsLoginOf, IsWillOf, EncodesParts, Filled, Gives, LoginWith, NoLogin, NoWill, WillWith, counted_if};
 
 use crate::buffer::{begin, put};
 use crate::check::text;

@@ -1,9 +1,7 @@
 //! The encoding of SUBSCRIBE, SUBACK and UNSUBSCRIBE into a caller's buffer (3.8 to 3.10).
 
 ghost use Rattle.std.specs.Prelude.{◌≡◌, ◌<◌, ◌^◌, IfOk};
-ghost use Rattle.mq_bytes.specs.Arguments.{IsListOf};
-ghost use Rattle.mq_bytes.specs.Buffers.{Gives};
-ghost use Rattle.mq_bytes.specs.Items.{first_of, kind_number};
+ghost use Rattle.mq_bytes.specs.Prelude.{IsListOf, Gives, first_of, kind_number};
 
 use crate::encode::{encode, number};
 use crate::fault::EncodeFault;

@@ -1,11 +1,7 @@
 //! The encoding of PUBLISH and CONNACK into a caller's buffer (3.2, 3.3).
 
 ghost use Rattle.std.specs.Prelude.{◌≡◌, ◌+◌, ◌*◌, ◌<◌, ◌≤◌, ◌^◌, ◌↔◌, IfOk, IsTrue, length};
-ghost use Rattle.mq_topic.specs.Qos.{qos_number};
-ghost use Rattle.mq_topic.specs.Topic.{IsTopicName};
-ghost use Rattle.mq_packet.specs.Encoding.{bit};
-ghost use Rattle.mq_bytes.specs.Arguments.{IsConnAckOf, IsPublishOf, MayDeliver};
-ghost use Rattle.mq_bytes.specs.Buffers.{Gives};
+ghost use Rattle.mq_bytes.specs.Prelude.{qos_number, IsTopicName, bit, IsConnAckOf, IsPublishOf, MayDeliver, Gives};
 
 use crate::check::check_name;
 use crate::encode::{encode, number};

@@ -1,8 +1,9 @@
-pub mod Count
 pub mod CommandLine
+pub mod Count
 pub mod Failure
 pub mod Grammar
 pub mod Hexadecimal
+pub mod Prelude
 pub mod Printed
 pub mod Random
 pub mod Show

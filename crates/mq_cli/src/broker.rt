@@ -1,10 +1,7 @@
 //! The command `broker`: its definition and its arguments.
 
 ghost use Rattle.std.specs.Prelude.{◌≡◌, false, codes, None, IfOk, IfSome};
-ghost use Rattle.clap.specs.Words.{app_of, rule_of, subcommand_rows_of};
-ghost use Rattle.clap.specs.declared.builder.command.Command.TheViews.{out-Command};
-ghost use Rattle.mq_cli.specs.CommandLine.{HasWord, IsBroker, IsData, IsExpiry, IsKeep, IsLimit, IsOnFull, IsPatience, IsTime, full_word, keep_word};
-ghost use Rattle.mq_cli.specs.Grammar.{broker_words, limit_rule, with_data, with_extras, with_journal, with_limits, with_logs, with_patience, with_sessions, with_tables};
+ghost use Rattle.mq_cli.specs.Prelude.{app_of, rule_of, subcommand_rows_of, out-Command, HasWord, IsBroker, IsData, IsExpiry, IsKeep, IsLimit, IsOnFull, IsPatience, IsTime, full_word, keep_word, broker_words, limit_rule, with_data, with_extras, with_journal, with_limits, with_logs, with_patience, with_sessions, with_tables};
 
 use crate::grammar::{Texts, file_option, flag, new_command, with_arg};
 use crate::words::{flag_of, given_of, number_of};

@@ -1,7 +1,7 @@
 //! The packets of an input, counted.
 
 ghost use Rattle.std.specs.Prelude.{◌≡◌, ◌==◌, if◌then◌else◌, IfErr, IfOk, IfSome};
-ghost use Rattle.mq_cli.specs.Count.{Counts, IsNotCounted, count_rest};
+ghost use Rattle.mq_cli.specs.Prelude.{Counts, IsNotCounted, count_rest};
 
 use crate::front::{Stop, fill, is_due, take_front};
 use crate::input::JobInput;
@@ -63,7 +63,7 @@ impl From<AllocError> for CountFault {
 
 impl From<Stop> for CountFault {
     ghost use Rattle.std.specs.Prelude.{◌≡◌};
-    ghost use Rattle.mq_cli.specs.Count.{fault_of_stop};
+    ghost use Rattle.mq_cli.specs.Prelude.{fault_of_stop};
 
     ghost from_gives = { λ stop fault. fault ≡ fault_of_stop stop };
 

@@ -1,8 +1,7 @@
 //! Why the program ends without a result.
 
 ghost use Rattle.std.specs.Prelude.{◌≡◌, ◌≢◌, IfErr, IfOk};
-ghost use Rattle.std.specs.IoError.{error_kind};
-ghost use Rattle.mq_cli.specs.Failure.{failure_status};
+ghost use Rattle.mq_cli.specs.Prelude.{error_kind, failure_status};
 
 use std::alloc::AllocError;
 use std::io;
@@ -62,8 +61,7 @@ pub fn exit_status(done: &Result<u8, Failure>) -> u8
 }
 
 impl From<io::Error> for Failure {
-    ghost use Rattle.std.specs.IoError.{error_kind};
-    ghost use Rattle.mq_cli.specs.Failure.{IsOutputFailure};
+    ghost use Rattle.mq_cli.specs.Prelude.{error_kind, IsOutputFailure};
 
     ghost from_gives = { λ error failure. IsOutputFailure (error_kind error) failure };
 

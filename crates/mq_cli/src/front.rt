@@ -1,12 +1,7 @@
 //! The bytes of an input, and the packets at their front.
 
 ghost use Rattle.std.specs.Prelude.{◌≡◌, ◌++◌, ◌≤◌, ℕ, List, true, length, drop, IfErr, IfOk, IfSome, OnErr};
-ghost use Rattle.std.specs.Io.KnownBytes.{Consumes, IsAtEnd, ReadConsumes};
-ghost use Rattle.mq_packet.specs.declared.packet.Packet.{Packet};
-ghost use Rattle.mq_decode.specs.Limits.{Bounds};
-ghost use Rattle.mq_decode.specs.Grammar.{Reading};
-ghost use Rattle.mq_cli.specs.Show.{Reads};
-ghost use Rattle.mq_cli.specs.Stops.{OnIo};
+ghost use Rattle.mq_cli.specs.Prelude.{Consumes, IsAtEnd, ReadConsumes, Packet, Bounds, Reading, Reads, OnIo};
 
 use crate::input::JobInput;
 use crate::show::read_all;
@@ -32,7 +27,7 @@ pub(crate) enum Stop {
 
 impl From<io::Error> for Stop {
     ghost use Rattle.std.specs.Prelude.{◌≡◌};
-    ghost use Rattle.mq_cli.specs.declared.front.Stop.TheVariants.{Io};
+    ghost use Rattle.mq_cli.specs.Prelude.{Io};
 
     ghost from_gives = { λ error stop. stop ≡ Io error };
 

@@ -1,9 +1,7 @@
 //! The definition of the command line: the commands with their arguments, and the help texts.
 
 ghost use Rattle.std.specs.Prelude.{◌≡◌, false, codes, map, IfOk, IfSome};
-ghost use Rattle.clap.specs.Words.{App, Shape, app_of, new_app, rule_of, shape_of, with_rule, with_subcommand};
-ghost use Rattle.clap.specs.declared.builder.command.Command.TheViews.{out-Command};
-ghost use Rattle.mq_cli.specs.Grammar.{bare_words, check_words, client_words, collect_words, command_named, file_rule, flag_rule, job_words, lenient_rule, match_words, number_rule, port_rule, program_words, publish_words, qos_rule, random_words, replay_words, serve_words, served_words, show_words, socket_words, stream_words, text_rule, texts_rule, word_words};
+ghost use Rattle.mq_cli.specs.Prelude.{App, Shape, app_of, new_app, rule_of, shape_of, with_rule, with_subcommand, out-Command, bare_words, check_words, client_words, collect_words, command_named, file_rule, flag_rule, job_words, lenient_rule, match_words, number_rule, port_rule, program_words, publish_words, qos_rule, random_words, replay_words, serve_words, served_words, show_words, socket_words, stream_words, text_rule, texts_rule, word_words};
 
 use crate::broker::broker_command;
 use clap::builder::ValueParser;

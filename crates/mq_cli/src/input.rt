@@ -1,8 +1,7 @@
 //! The input of jobs.
 
 ghost use Rattle.std.specs.Prelude.{◌≡◌, ℕ, List, Option, Bool, true, false, Some, [], OnErr};
-ghost use Rattle.std.specs.Io.{ReadsAtMost};
-ghost use Rattle.std.specs.Io.KnownBytes.{ReadConsumes};
+ghost use Rattle.mq_cli.specs.Prelude.{ReadsAtMost, ReadConsumes};
 
 use std::io;
 use std::io::{Empty, Read};

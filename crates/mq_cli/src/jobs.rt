@@ -1,7 +1,7 @@
 //! The commands of the program.
 
 ghost use Rattle.std.specs.Prelude.{◌≡◌};
-ghost use Rattle.mq_cli.specs.CommandLine.{job_source};
+ghost use Rattle.mq_cli.specs.Prelude.{job_source};
 
 use crate::broker::Broker;
 use mq_topic::Qos;

@@ -1,14 +1,7 @@
 //! Jobs done over an input and a writer.
 
 ghost use Rattle.std.specs.Prelude.{◌≡◌, ℕ, List, Some, None, true, IfOk, IsErr, OnOk};
-ghost use Rattle.std.specs.Borrow.{Bor};
-ghost use Rattle.std.specs.List.{flat_map};
-ghost use Rattle.std.specs.Io.KnownBytes.{Appends};
-ghost use Rattle.mq_topic.specs.Matching.{is_match};
-ghost use Rattle.mq_packet.specs.Lines.{Prints};
-ghost use Rattle.mq_cli.specs.CommandLine.{job_source};
-ghost use Rattle.mq_cli.specs.Printed.{bad_hex, count_end_lines, count_lines, end_lines, fault_line, file_not_read, match_line, no_memory, packet_line, packets_line, shown_lines, topic_line};
-ghost use Rattle.mq_cli.specs.Status.{IsCheckDone, IsDone, IsMatchDone, IsShowDone, count_status, end_status, match_status, widest};
+ghost use Rattle.mq_cli.specs.Prelude.{Bor, flat_map, Appends, is_match, Prints, job_source, bad_hex, count_end_lines, count_lines, end_lines, fault_line, file_not_read, match_line, no_memory, packet_line, packets_line, shown_lines, topic_line, IsCheckDone, IsDone, IsMatchDone, IsShowDone, count_status, end_status, match_status, widest};
 
 use crate::count::{CountEnd, CountFault, PacketCount, count_packets};
 use crate::input::{Fallible, JobInput};

@@ -1,14 +1,8 @@
 //! Schedules that are generated, printed as they are made.
 
 ghost use Rattle.std.specs.Prelude.{◌≡◌, ◌∷◌, [], ℕ, codes, decimal, IfOk, OnOk};
-ghost use Rattle.std.specs.List.{flat_map};
-ghost use Rattle.std.specs.Io.KnownBytes.{Appends};
-ghost use Rattle.mq_packet.specs.Lines.{Prints};
-ghost use Rattle.mq_world.specs.MadeUp.{made_event, made_qos, made_side, made_up};
+ghost use Rattle.mq_cli.specs.Prelude.{flat_map, Appends, Prints, made_event, made_qos, made_side, made_up, line_with, step_line, event_line, event_of, IsRandomDone};
 ghost use Rattle.mq_schedule.specs.declared.schedule.Step.TheVariants as steps;
-ghost use Rattle.mq_schedule.specs.Writing.{line_with, step_line};
-ghost use Rattle.mq_cli.specs.Random.{event_line, event_of};
-ghost use Rattle.mq_cli.specs.Status.{IsRandomDone};
 
 use crate::output::DONE;
 use mq_schedule::{BytesWord, SideWord, schedule_laws};

@@ -1,10 +1,7 @@
 //! Schedules that are replayed from a file.
 
 ghost use Rattle.std.specs.Prelude.{◌≡◌, IfOk, OnOk};
-ghost use Rattle.std.specs.Io.KnownBytes.{Appends};
-ghost use Rattle.mq_packet.specs.Lines.{Prints};
-ghost use Rattle.mq_cli.specs.Printed.{bad_line};
-ghost use Rattle.mq_cli.specs.Status.{IsReplayDone, IsTextReplayed};
+ghost use Rattle.mq_cli.specs.Prelude.{Appends, Prints, bad_line, IsReplayDone, IsTextReplayed};
 
 use crate::front::{Stop, read_whole};
 use crate::input::JobInput;

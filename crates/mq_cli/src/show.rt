@@ -1,12 +1,7 @@
 //! The packets of bytes, and of bytes that are written as hexadecimal digits.
 
 ghost use Rattle.std.specs.Prelude.{◌≡◌, ◌+◌, ◌<◌, ◌↔◌, ℕ, List, Option, IsTrue, IfOk, IsErrOf, length};
-ghost use Rattle.hex.specs.Hex.{decode_of};
-ghost use Rattle.mq_packet.specs.declared.packet.Packet.{Packet};
-ghost use Rattle.mq_decode.specs.declared.fault.DecodeFault.{DecodeFault};
-ghost use Rattle.mq_decode.specs.Grammar.{Reading};
-ghost use Rattle.mq_cli.specs.Hexadecimal.{IsHexadecimal};
-ghost use Rattle.mq_cli.specs.Show.{Reads, Shows};
+ghost use Rattle.mq_cli.specs.Prelude.{decode_of, Packet, DecodeFault, Reading, IsHexadecimal, Reads, Shows};
 
 use crate::stream::{Shown, StreamEnd};
 use mq_decode::{DecodeError, Limits, decode_pieces, packet_len};

@@ -1,14 +1,7 @@
 //! The packets of an input, printed as they come.
 
 ghost use Rattle.std.specs.Prelude.{◌≡◌, List, IfErr, IfOk, OnOk};
-ghost use Rattle.std.specs.List.{flat_map};
-ghost use Rattle.std.specs.Io.KnownBytes.{Appends};
-ghost use Rattle.mq_packet.specs.declared.packet.Packet.{Packet};
-ghost use Rattle.mq_decode.specs.Grammar.{Reading};
-ghost use Rattle.mq_packet.specs.Lines.{Prints};
-ghost use Rattle.mq_cli.specs.Printed.{end_lines, packet_line};
-ghost use Rattle.mq_cli.specs.Status.{IsStreamShown, end_of_rest, end_status};
-ghost use Rattle.mq_cli.specs.Stops.{OnMemory};
+ghost use Rattle.mq_cli.specs.Prelude.{flat_map, Appends, Packet, Reading, Prints, end_lines, packet_line, IsStreamShown, end_of_rest, end_status, OnMemory};
 
 use crate::front::{Stop, fill, is_due, take_front};
 use crate::input::JobInput;

@@ -1,9 +1,7 @@
 //! The words of the command line.
 
 ghost use Rattle.std.specs.Prelude.{◌≡◌, ◌≤◌, ◌≢◌, [], None, codes, map, option_map, true, IfOk, IfSome};
-ghost use Rattle.clap.specs.Words.{subcommand_of, subcommand_rows_of};
-ghost use Rattle.mq_cli.specs.CommandLine.{GivesFlag, GivesId, GivesNumber, GivesQos, GivesSource, GivesTexts, GivesWord, HasWord, IsCollect, IsCommandOf, IsDigitsJob, IsDraw, IsJobOf, IsMet, IsPublish, IsServe, IsSource};
-ghost use Rattle.mq_cli.specs.Grammar.{program_words};
+ghost use Rattle.mq_cli.specs.Prelude.{subcommand_of, subcommand_rows_of, GivesFlag, GivesId, GivesNumber, GivesQos, GivesSource, GivesTexts, GivesWord, HasWord, IsCollect, IsCommandOf, IsDigitsJob, IsDraw, IsJobOf, IsMet, IsPublish, IsServe, IsSource, program_words};
 
 use crate::advice::advised;
 use crate::broker::{broker_complaint, broker_of};

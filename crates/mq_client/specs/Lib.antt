@@ -1,10 +1,11 @@
+pub mod Collecting
+pub mod Course
+pub mod Disk
 pub mod Halts
 pub mod Keeping
 pub mod Links
-pub mod Disk
-pub mod Course
+pub mod Prelude
 pub mod Printed
-pub mod Publishing
 pub mod Program
-pub mod Collecting
 pub mod Programs
+pub mod Publishing

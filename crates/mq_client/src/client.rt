@@ -1,11 +1,8 @@
 //! The client of the programs: new, or with a saved session.
 
 ghost use Rattle.std.specs.Prelude.{◌≡◌, ℕ, List, true, IfErr, IfOk, MatchOption};
+ghost use Rattle.mq_client.specs.Prelude.{unloaded_status, Contains, IsMissing, marked_form, CanGoOn, GoesOn, IsNewClient, program_config};
 ghost use Rattle.mq_flow.specs.declared.saved.Saved as value;
-ghost use Rattle.mq_client.specs.Halts.{unloaded_status};
-ghost use Rattle.mq_client.specs.Disk.{Contains, IsMissing};
-ghost use Rattle.mq_client.specs.Keeping.{marked_form};
-ghost use Rattle.mq_client.specs.Program.{CanGoOn, GoesOn, IsNewClient, program_config};
 
 use crate::disk::Disk;
 use crate::lines::write_bytes;

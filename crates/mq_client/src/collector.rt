@@ -1,14 +1,9 @@
 //! The program `collect`.
 
 ghost use Rattle.std.specs.Prelude.{◌≡◌, ◌-◌, ◌<◌, ◌∷◌, ◌⊎◌, ℕ, List, [], true, false, length, IfOk, IfSome, OnErr, OnOk};
-ghost use Rattle.std.specs.List.{flat_map};
+ghost use Rattle.mq_client.specs.Prelude.{flat_map, Prints, none_received, is_up, Opening, Subscription, Went, closes_of, Gathers, IsAnswered, IsCollectDone, KeepsFirst, Unacknowledged, Unprinted, collects, grants, handed, request_of};
 ghost use Rattle.std.specs.Io.KnownBytes.{Keeps as Silent};
-ghost use Rattle.mq_packet.specs.Lines.{Prints};
-ghost use Rattle.mq_flow.specs.Receiver.{none_received};
-ghost use Rattle.mq_end.specs.End.{is_up};
-ghost use Rattle.mq_client.specs.Course.{Opening, Subscription, Went};
-ghost use Rattle.mq_client.specs.Halts.{closes_of};
-ghost use Rattle.mq_client.specs.Collecting.{Gathers, IsAnswered, IsCollectDone, Keeps, KeepsFirst, Unacknowledged, Unprinted, collects, grants, handed, request_of};
+ghost use Rattle.mq_client.specs.Collecting.{Keeps};
 
 use crate::error::ClientError;
 use crate::lines::{print_told, write_bytes, write_halt};

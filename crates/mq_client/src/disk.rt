@@ -1,8 +1,7 @@
 //! Disks: named files.
 
 ghost use Rattle.std.specs.Prelude.{◌≡◌, ℕ, List, Option, None, MatchOption, IfOk, IsTrue, OnErr, OnOk, ◌↔◌};
-ghost use Rattle.std.specs.IoError.{error_kind};
-ghost use Rattle.mq_client.specs.Disk.{Contains, Entry, IsMissing, Moved, Stays, Synced, Touched, Wrote};
+ghost use Rattle.mq_client.specs.Prelude.{error_kind, Contains, Entry, IsMissing, Moved, Stays, Synced, Touched, Wrote};
 
 use std::alloc::Global;
 use std::fs::{File, OpenFile, OpenOptions, Permissions};

@@ -1,7 +1,7 @@
 //! The errors of the client programs.
 
 ghost use Rattle.std.specs.Prelude.{◌≡◌};
-ghost use Rattle.mq_client.specs.Halts.{halt_status};
+ghost use Rattle.mq_client.specs.Prelude.{halt_status};
 
 use mq_end::{CloseReason, PublishRefusal};
 use std::alloc::AllocError;
@@ -49,7 +49,7 @@ impl ClientError {
 
 impl From<AllocError> for ClientError {
     ghost use Rattle.std.specs.Prelude.{◌≡◌};
-    ghost use Rattle.mq_client.specs.declared.error.ClientError.TheVariants.{Memory};
+    ghost use Rattle.mq_client.specs.Prelude.{Memory};
 
     ghost from_gives = { λ _ halt. halt ≡ Memory };
 

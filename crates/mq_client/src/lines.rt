@@ -1,12 +1,7 @@
 //! The lines of the client programs.
 
 ghost use Rattle.std.specs.Prelude.{◌≡◌, ◌++◌, Some, IfOk, OnErr, OnOk, codes};
-ghost use Rattle.std.specs.List.{flat_map};
-ghost use Rattle.std.specs.Io.KnownBytes.{Appends};
-ghost use Rattle.mq_packet.specs.Writing.{AppendsFront};
-ghost use Rattle.mq_client.specs.Collecting.{Grows};
-ghost use Rattle.mq_client.specs.Halts.{halt_status, unloaded_status};
-ghost use Rattle.mq_client.specs.Printed.{halt_line, message_line, payload_word, told_line, unloaded_line};
+ghost use Rattle.mq_client.specs.Prelude.{flat_map, Appends, AppendsFront, Grows, halt_status, unloaded_status, halt_line, message_line, payload_word, told_line, unloaded_line};
 
 use crate::client::LoadFailure;
 use crate::error::ClientError;

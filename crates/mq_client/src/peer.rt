@@ -1,15 +1,8 @@
 //! A client end at a stream.
 
 ghost use Rattle.std.specs.Prelude.{◌≡◌, ◌≢◌, ◌≤◌, ◌<◌, ◌+◌, ◌↔◌, ◌∷◌, ℕ, [], true, false, List, Ok, length, take, IfErr, IfOk, IsTrue, OnErr, OnOk, option_to_list};
-ghost use Rattle.std.specs.Io.KnownBytes.{Appends, Consumes, Keeps};
-ghost use Rattle.mq_packet.specs.declared.message.Message.{Message};
-ghost use Rattle.mq_flow.specs.Receiver.{none_received};
-ghost use Rattle.mq_end.specs.declared.happening.Happening.{Happening};
-ghost use Rattle.mq_end.specs.declared.reason.CloseReason.{CloseReason};
-ghost use Rattle.mq_end.specs.End.{is_up};
-ghost use Rattle.mq_client.specs.Course.{IsIdle, Leaves, MayBeLost, Opening, Subscription, Ticked, Unsubscription, Went, WentFirst, asked_by};
-ghost use Rattle.mq_client.specs.Halts.{Closes, closes_of, halt_closes};
-ghost use Rattle.mq_client.specs.Publishing.{resumed_of};
+ghost use Rattle.mq_client.specs.Prelude.{Appends, Consumes, Message, none_received, Happening, CloseReason, is_up, IsIdle, Leaves, MayBeLost, Opening, Subscription, Ticked, Unsubscription, Went, WentFirst, asked_by, Closes, closes_of, halt_closes, resumed_of};
+ghost use Rattle.std.specs.Io.KnownBytes.{Keeps};
 
 use crate::error::ClientError;
 use crate::saver::{SaveError, SessionSaver};

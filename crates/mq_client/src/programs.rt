@@ -1,15 +1,7 @@
 //! The whole programs, over any connections and disks.
 
 ghost use Rattle.std.specs.Prelude.{◌≡◌, true, IfOk, OnOk, MatchOption};
-ghost use Rattle.std.specs.Io.KnownBytes.{Appends};
-ghost use Rattle.mq_packet.specs.Lines.{Prints};
-ghost use Rattle.mq_client.specs.Disk.{Replaced, history_of, stands_of};
-ghost use Rattle.mq_client.specs.Halts.{halt_status};
-ghost use Rattle.mq_client.specs.Keeping.{marked_form, saved_of};
-ghost use Rattle.mq_client.specs.Printed.{halt_line};
-ghost use Rattle.mq_client.specs.Program.{IsNewClient};
-ghost use Rattle.mq_client.specs.Programs.{IsAbsent, IsClientOf, IsDiscarded, IsKeptDone, IsLoadedOf, IsLostDone, IsMessagesDone, IsSessionDone, IsTextsDone};
-ghost use Rattle.mq_client.specs.Publishing.{resumed_of};
+ghost use Rattle.mq_client.specs.Prelude.{Appends, Prints, Replaced, history_of, stands_of, halt_status, marked_form, saved_of, halt_line, IsNewClient, IsAbsent, IsClientOf, IsDiscarded, IsKeptDone, IsLoadedOf, IsLostDone, IsMessagesDone, IsSessionDone, IsTextsDone, resumed_of};
 
 use crate::client::{LoadFailure, Loaded, load, new_client};
 use crate::collector::{CollectGoal, collect};

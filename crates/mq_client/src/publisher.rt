@@ -1,9 +1,7 @@
 //! The program `publish`.
 
 ghost use Rattle.std.specs.Prelude.{◌≡◌, [], IfErr, IfOk, OnOk};
-ghost use Rattle.mq_packet.specs.Lines.{Prints};
-ghost use Rattle.mq_client.specs.Halts.{closes_of};
-ghost use Rattle.mq_client.specs.Publishing.{AskedAll, AskedMore, IsPublishDone, IsResumeDone, Published, PublishHalts, asks_of, publishes, text_message};
+ghost use Rattle.mq_client.specs.Prelude.{Prints, closes_of, AskedAll, AskedMore, IsPublishDone, IsResumeDone, Published, PublishHalts, asks_of, publishes, text_message};
 
 use crate::error::ClientError;
 use crate::lines::write_halt;

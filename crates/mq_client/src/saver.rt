@@ -1,7 +1,7 @@
 //! Session savers.
 
 ghost use Rattle.std.specs.Prelude.{ℕ, List, Option, None, [], ◌∷◌, OnErr, OnOk};
-ghost use Rattle.mq_client.specs.Keeping.{Holds, saved_of};
+ghost use Rattle.mq_client.specs.Prelude.{Holds, saved_of};
 
 use mq_end::ClientEnd;
 use std::alloc::Global;

@@ -1,8 +1,7 @@
 //! A session in a file.
 
 ghost use Rattle.std.specs.Prelude.{◌≡◌, ◌++◌, true, codes, OnErr, OnOk};
-ghost use Rattle.mq_client.specs.Disk.{Replaced, Unchanged, history_of, stands_of};
-ghost use Rattle.mq_client.specs.Keeping.{marked_form};
+ghost use Rattle.mq_client.specs.Prelude.{Replaced, Unchanged, history_of, stands_of, marked_form};
 
 use crate::client::lost_form;
 use crate::disk::Disk;

@@ -1,7 +1,7 @@
 //! The lock of a session in a file.
 
 ghost use Rattle.std.specs.Prelude.{◌≡◌, ◌≤◌, ◌++◌, ℕ, codes, string_bytes, IfOk, IfSome};
-ghost use Rattle.mq_client.specs.Links.{IsNamedBy, Reaches, is_absolute};
+ghost use Rattle.mq_client.specs.Prelude.{IsNamedBy, Reaches, is_absolute};
 
 use crate::disk::OWNER_ONLY;
 use std::alloc::{AllocError, Global};

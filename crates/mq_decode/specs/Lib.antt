@@ -7,11 +7,12 @@ pub mod Front
 pub mod Gives
 pub mod Grammar
 pub mod Kind
-pub mod Layout
 pub mod Laws
+pub mod Layout
 pub mod Lent
 pub mod Limits
 pub mod Lists
+pub mod Prelude
 pub mod Reader
 pub mod State
 pub mod Views

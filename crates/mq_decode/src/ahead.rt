@@ -1,12 +1,8 @@
 //! Packets taken one at a time, whose messages share a copy of the bytes ahead.
 
 ghost use Rattle.std.specs.Prelude.{◌≡◌, ◌<◌, ◌≤◌, ◌^◌, ◌++◌, [], length, take, Err, Ok, Some, IfOk, IfErr, IfNone, IfSome, IsTrue, OnOk};
+ghost use Rattle.mq_decode.specs.Prelude.{counted_more, counted_next, front_at, BeginsWith, IsFront, Pending, ReadsWithin, Wants, packet_of};
 ghost use Rattle.mq_packet.specs.declared.packet.Packet.TheVariants as packets;
-ghost use Rattle.mq_decode.specs.Copied.{counted_more, counted_next};
-ghost use Rattle.mq_decode.specs.Front.{front_at};
-ghost use Rattle.mq_decode.specs.Gives.{BeginsWith};
-ghost use Rattle.mq_decode.specs.Grammar.{IsFront, Pending, ReadsWithin, Wants};
-ghost use Rattle.mq_decode.specs.Views.{packet_of};
 
 use crate::fault::DecodeError;
 use crate::front::{acknowledgement, bare_packet, publish_front, view};

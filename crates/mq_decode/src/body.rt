@@ -1,9 +1,7 @@
 //! The fields of a packet, all of them (chapter 3).
 
 ghost use Rattle.std.specs.Prelude.{◌≡◌, ◌<◌, ◌^◌, length, IfOk};
-ghost use Rattle.mq_decode.specs.Gives.{Same};
-ghost use Rattle.mq_decode.specs.Bodies.{present_at, answer_at, connack_at, only_identifier_at, body_at};
-ghost use Rattle.mq_decode.specs.Views.{LiesAtEnd, packet_of};
+ghost use Rattle.mq_decode.specs.Prelude.{Same, present_at, answer_at, connack_at, only_identifier_at, body_at, LiesAtEnd, packet_of};
 
 use crate::connect::connect;
 use crate::fault::{BadField, FaultKind};

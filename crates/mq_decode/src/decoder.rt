@@ -1,11 +1,8 @@
 //! A decoder over pieces of a stream.
 
 ghost use Rattle.std.specs.Prelude.{◌≡◌, ◌+◌, ◌≤◌, ◌++◌, ℕ, List, [], length, take, Option, Some, None, Err, IfOk, IfErr, IfSome, IfNone, OnErr, OnOk};
-ghost use Rattle.std.specs.Result.{result_err};
-ghost use Rattle.std.specs.List.{flat_map};
+ghost use Rattle.mq_decode.specs.Prelude.{result_err, flat_map, Copies, counted_more, counted_next, Goes, IsFront, Pending, ReadsWithin, Stops};
 ghost use Rattle.mq_packet.specs.declared.packet.Packet.TheVariants as packets;
-ghost use Rattle.mq_decode.specs.Copied.{Copies, counted_more, counted_next};
-ghost use Rattle.mq_decode.specs.Grammar.{Goes, IsFront, Pending, ReadsWithin, Stops};
 
 use crate::ahead::{take_next, take_publish};
 use crate::fault::DecodeError;

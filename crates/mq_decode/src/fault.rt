@@ -1,7 +1,7 @@
 //! Why bytes are not a packet.
 
 ghost use Rattle.std.specs.Prelude.{◌≡◌, Some};
-ghost use Rattle.mq_decode.specs.Fault.{fault_code, fault_number};
+ghost use Rattle.mq_decode.specs.Prelude.{fault_code, fault_number};
 
 use std::alloc::{AllocError, AllocFailed};
 use std::fmt;
@@ -130,7 +130,7 @@ pub(crate) enum FieldsError {
 
 impl From<BadField> for FieldsError {
     ghost use Rattle.std.specs.Prelude.{◌≡◌};
-    ghost use Rattle.mq_decode.specs.declared.fault.FieldsError.TheVariants.{Bad};
+    ghost use Rattle.mq_decode.specs.Prelude.{Bad};
 
     ghost from_gives = { λ bad e. e ≡ Bad bad };
 
@@ -141,7 +141,7 @@ impl From<BadField> for FieldsError {
 
 impl From<AllocError> for FieldsError {
     ghost use Rattle.std.specs.Prelude.{◌≡◌};
-    ghost use Rattle.mq_decode.specs.declared.fault.FieldsError.TheVariants.{Memory};
+    ghost use Rattle.mq_decode.specs.Prelude.{Memory};
 
     ghost from_gives = { λ _ e. e ≡ Memory };
 
@@ -152,7 +152,7 @@ impl From<AllocError> for FieldsError {
 
 impl<T: Drop> From<AllocFailed<T>> for FieldsError {
     ghost use Rattle.std.specs.Prelude.{◌≡◌};
-    ghost use Rattle.mq_decode.specs.declared.fault.FieldsError.TheVariants.{Memory};
+    ghost use Rattle.mq_decode.specs.Prelude.{Memory};
 
     ghost from_gives = { λ _ e. e ≡ Memory };
 

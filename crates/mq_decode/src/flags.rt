@@ -1,7 +1,7 @@
 //! The flags of CONNECT (3.1.2.3).
 
 ghost use Rattle.std.specs.Prelude.{◌≡◌};
-ghost use Rattle.mq_decode.specs.Connects.{flags_from, will_from, login_from};
+ghost use Rattle.mq_decode.specs.Prelude.{flags_from, will_from, login_from};
 
 use mq_topic::Qos;
 

@@ -1,13 +1,8 @@
 //! The packet at the front of bytes.
 
 ghost use Rattle.std.specs.Prelude.{◌≡◌, ◌+◌, ◌<◌, ◌≤◌, ◌++◌, ℕ, List, length, take, Ok, Some, IfOk, IfNone, IfSome};
-ghost use Rattle.mq_packet.specs.declared.packet.Packet.{Packet};
+ghost use Rattle.mq_decode.specs.Prelude.{Packet, EndsWith, FaultKind, front_at, Faulty, IsFront, Pending, ReadsWithin, IsView, LiesAtEnd, LiesInFront, packet_of, view_read};
 ghost use Rattle.mq_packet.specs.declared.packet.Packet.TheVariants as packets;
-ghost use Rattle.mq_decode.specs.Gives.{EndsWith};
-ghost use Rattle.mq_decode.specs.declared.fault.FaultKind.{FaultKind};
-ghost use Rattle.mq_decode.specs.Front.{front_at};
-ghost use Rattle.mq_decode.specs.Grammar.{Faulty, IsFront, Pending, ReadsWithin};
-ghost use Rattle.mq_decode.specs.Views.{IsView, LiesAtEnd, LiesInFront, packet_of, view_read};
 
 use crate::body::body;
 use crate::fault::{DecodeError, DecodeFault};

@@ -1,9 +1,7 @@
 //! The fixed header of a packet (2.2): the first byte and the remaining length.
 
 ghost use Rattle.std.specs.Prelude.{◌≡◌, ◌+◌, ◌<◌, ◌≤◌, ◌^◌, length, Ok, IfOk, IfSome, OnSome};
-ghost use Rattle.mq_wire.specs.Reading.{IsSmall, read_length};
-ghost use Rattle.mq_decode.specs.Kind.{size_fault};
-ghost use Rattle.mq_decode.specs.Front.{end_told, header_at};
+ghost use Rattle.mq_decode.specs.Prelude.{IsSmall, read_length, size_fault, end_told, header_at};
 
 use crate::fault::{DecodeFault, FaultKind};
 use crate::kind::{Kind, fixed_size, kind_at};

@@ -1,8 +1,7 @@
 //! The bytes that a decoder holds.
 
 ghost use Rattle.std.specs.Prelude.{◌≡◌, ◌-◌, ◌<◌, ◌≤◌, ◌^◌, ◌++◌, [], ◌∷◌, length, true, IfErr, IfNone, IfOk, IfSome, IsFalse, IsTrue, OnOk, ◌==◌};
-ghost use Rattle.mq_decode.specs.Copied.{counted_more};
-ghost use Rattle.mq_decode.specs.Grammar.{IsFront, Pending, Wants};
+ghost use Rattle.mq_decode.specs.Prelude.{counted_more, IsFront, Pending, Wants};
 
 use crate::fault::DecodeError;
 use crate::limits::Limits;

@@ -1,7 +1,7 @@
 //! The first byte of a packet (2.2.1, 2.2.2).
 
 ghost use Rattle.std.specs.Prelude.{◌≡◌, ◌<◌};
-ghost use Rattle.mq_decode.specs.Kind.{kind_at, publish_kind, fixed_size};
+ghost use Rattle.mq_decode.specs.Prelude.{kind_at, publish_kind, fixed_size};
 
 use crate::fault::FaultKind;
 use mq_topic::Qos;

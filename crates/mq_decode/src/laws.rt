@@ -1,7 +1,6 @@
 //! Laws of the grammar.
 
-ghost use Rattle.mq_decode.specs.Layout.{FaultyFields};
-ghost use Rattle.mq_decode.specs.Laws.{EachReads, OneReading, PendingIsShort, ReadsAgain, ReadsOn};
+ghost use Rattle.mq_decode.specs.Prelude.{FaultyFields, EachReads, OneReading, PendingIsShort, ReadsAgain, ReadsOn};
 
 use mq_wire::{length_laws, number_laws, text_laws};
 

@@ -1,7 +1,7 @@
 //! Limits on packets that are read.
 
 ghost use Rattle.std.specs.Prelude.{◌≡◌, ◌≤◌, ◌<◌, ◌^◌, ◌↔◌, IsSome, IfSome};
-ghost use Rattle.mq_decode.specs.Limits.{strict, loose};
+ghost use Rattle.mq_decode.specs.Prelude.{strict, loose};
 
 use std::marker::Model;
 

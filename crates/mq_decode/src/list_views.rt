@@ -2,8 +2,6 @@
 //! access.
 
 ghost use Rattle.std.specs.Prelude.{◌≡◌, [], ◌∷◌, length, IfOk, IfSome, IsOk, MatchOption};
-ghost use Rattle.std.specs.Iterator.{at_most};
-ghost use Rattle.std.specs.Map.Iter.{TakesFirst};
 ghost use Rattle.mq_decode.specs.Fields.{filter_at};
 ghost use Rattle.mq_decode.specs.Lent.{IsLeft, items_of, left_in};
 ghost use Rattle.mq_decode.specs.Lists.{list_at, request_at, suback_code_at};
@@ -79,6 +77,8 @@ impl<'a> Model for Requests<'a> {
 }
 
 impl<'a> Iterator for Requests<'a> {
+    ghost use Rattle.mq_decode.specs.Prelude.{at_most, TakesFirst};
+
     type Item = RequestView<'a>;
 
     ghost next_gives = { TakesFirst (λ x. x) };
@@ -176,6 +176,8 @@ impl<'a> Model for Codes<'a> {
 }
 
 impl<'a> Iterator for Codes<'a> {
+    ghost use Rattle.mq_decode.specs.Prelude.{at_most, TakesFirst};
+
     type Item = SubAckCode;
 
     ghost next_gives = { TakesFirst (λ x. x) };
@@ -269,6 +271,8 @@ impl<'a> Model for Filters<'a> {
 }
 
 impl<'a> Iterator for Filters<'a> {
+    ghost use Rattle.mq_decode.specs.Prelude.{at_most, TakesFirst};
+
     type Item = FilterView<'a>;
 
     ghost next_gives = { TakesFirst (λ x. x) };

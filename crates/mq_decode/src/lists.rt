@@ -1,12 +1,7 @@
 //! Lists of at least one item (3.8.3, 3.9.3, 3.10.3).
 
 ghost use Rattle.std.specs.Prelude.{◌≡◌, ◌<◌, List, ℕ, Result, length, IfOk, IsOk};
-ghost use Rattle.mq_decode.specs.declared.fault.BadField.{BadField};
-ghost use Rattle.mq_decode.specs.Gives.{Gives, Same};
-ghost use Rattle.mq_decode.specs.Fields.{filter_at, code_byte_at};
-ghost use Rattle.mq_decode.specs.Lent.{Tests, items_of, rest_of};
-ghost use Rattle.mq_decode.specs.Lists.{list_at, list_with, request_at, suback_code_at};
-ghost use Rattle.mq_topic.specs.Qos.{qos_from};
+ghost use Rattle.mq_decode.specs.Prelude.{BadField, Gives, Same, filter_at, code_byte_at, Tests, items_of, rest_of, list_at, list_with, request_at, suback_code_at, qos_from};
 
 use crate::fault::{BadField, FaultKind, FieldsError};
 use crate::fields::{FilterView, bad_at, filter, identifier};

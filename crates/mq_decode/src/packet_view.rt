@@ -1,7 +1,7 @@
 //! Borrowed packets.
 
 ghost use Rattle.std.specs.Prelude.{◌≡◌, IfOk, IfSome};
-ghost use Rattle.mq_decode.specs.Views.{LiesAtEnd, packet_of};
+ghost use Rattle.mq_decode.specs.Prelude.{LiesAtEnd, packet_of};
 
 use crate::connect::ConnectView;
 use crate::fault::DecodeFault;

@@ -1,11 +1,7 @@
 //! Packets from a reader.
 
 ghost use Rattle.std.specs.Prelude.{◌≡◌, ◌+◌, ◌<◌, ◌≤◌, ◌++◌, ℕ, List, Option, Some, None, [], length, take, IfOk, IfErr, IfSome, IfNone, OnErr, OnOk};
-ghost use Rattle.std.specs.Io.KnownBytes.{Consumes, IsAtEnd, Keeps, ReadConsumes};
-ghost use Rattle.mq_packet.specs.declared.packet.Packet.{Packet};
-ghost use Rattle.mq_decode.specs.Grammar.{ReadsWithin, Pending};
-ghost use Rattle.mq_decode.specs.Limits.{Bounds};
-ghost use Rattle.mq_decode.specs.Reader.{ReadStops, Answers, FillStops, TakesSized, TakesWithin, stop_of, without_size};
+ghost use Rattle.mq_decode.specs.Prelude.{Consumes, IsAtEnd, Keeps, ReadConsumes, Packet, ReadsWithin, Pending, Bounds, ReadStops, Answers, FillStops, TakesSized, TakesWithin, stop_of, without_size};
 
 use crate::fault::{DecodeError, DecodeFault};
 use crate::laws::reads_again;
@@ -36,7 +32,7 @@ pub enum ReadError {
 
 impl From<io::Error> for ReadError {
     ghost use Rattle.std.specs.Prelude.{◌≡◌};
-    ghost use Rattle.mq_decode.specs.declared.read.ReadError.TheVariants.{Io};
+    ghost use Rattle.mq_decode.specs.Prelude.{Io};
 
     ghost from_gives = { λ error stop. stop ≡ Io error };
 

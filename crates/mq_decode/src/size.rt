@@ -1,9 +1,7 @@
 //! How many bytes a packet takes, as its header says.
 
 ghost use Rattle.std.specs.Prelude.{◌≡◌, ◌++◌, ℕ, List, Some, IfSome, length};
-ghost use Rattle.mq_packet.specs.declared.packet.Packet.{Packet};
-ghost use Rattle.mq_decode.specs.Front.{header_at, len_told};
-ghost use Rattle.mq_decode.specs.Grammar.{HasHeader, ReadsWithin};
+ghost use Rattle.mq_decode.specs.Prelude.{Packet, header_at, len_told, HasHeader, ReadsWithin};
 
 use crate::header::header_at;
 use crate::limits::Limits;

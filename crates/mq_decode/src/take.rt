@@ -1,11 +1,8 @@
 //! Packets from the front of bytes, one after another.
 
 ghost use Rattle.std.specs.Prelude.{◌≡◌, ◌+◌, ◌<◌, ◌≤◌, ◌^◌, ◌++◌, [], ◌∷◌, length, take, drop, vec_len, vec_capacity, Err, IfOk, IfErr, IfNone, IfSome, IsFalse, IsTrue, OnOk, max};
-ghost use Rattle.mq_decode.specs.Copied.{Adds, Copies, counted_more, counted_next};
-ghost use Rattle.mq_decode.specs.Grammar.{Appends, Goes, IsAlone, IsFront, Pending, ReadsWithin, Stops, Takes, Wants};
+ghost use Rattle.mq_decode.specs.Prelude.{Adds, Copies, counted_more, counted_next, Appends, Goes, IsAlone, IsFront, Pending, ReadsWithin, Stops, Takes, Wants, BeginsWith, EndsWith, LiesAtEnd, packet_of};
 ghost use Rattle.mq_packet.specs.declared.packet.Packet.TheVariants as packets;
-ghost use Rattle.mq_decode.specs.Gives.{BeginsWith, EndsWith};
-ghost use Rattle.mq_decode.specs.Views.{LiesAtEnd, packet_of};
 
 use crate::fault::DecodeError;
 use crate::front::{acknowledgement, bare_packet, front, view};

@@ -1,17 +1,7 @@
 //! A broker with a journal of its events.
 
 ghost use Rattle.std.specs.Prelude.{◌≡◌, ◌≢◌, ◌<◌, ◌↔◌, [], ◌∷◌, ◌++◌, true, false, length, take, IfOk, IfErr, OnOk, OnErr};
-ghost use Rattle.mq_log.specs.Blocks.{at_rest};
-ghost use Rattle.mq_log.specs.Disk.{LeavesOnly, Only};
-ghost use Rattle.mq_log.specs.Journal.{IsSettled};
-ghost use Rattle.mq_record.specs.Encoding.{is_recorded};
-ghost use Rattle.mq_route.specs.declared.event.HubEvent.TheVariants.{Bytes, Collect};
-ghost use Rattle.mq_route.specs.Step.{HubStep};
-ghost use Rattle.mq_route.specs.StepSome.{HubStepSome};
-ghost use Rattle.mq_durable.specs.declared.condition.Condition.TheVariants.{Sound, Broken};
-ghost use Rattle.mq_durable.specs.Calls.{Collected, Committed, Continued, MakesCall, Stepped};
-ghost use Rattle.mq_durable.specs.Recorded.{AfterCrash, HoldsAllOrNone, events_of};
-ghost use Rattle.mq_durable.specs.State.{FollowsJournal, IsCommitRefused, IsStepRefused, after_failure, after_step, reply_in};
+ghost use Rattle.mq_durable.specs.Prelude.{at_rest, LeavesOnly, Only, IsSettled, is_recorded, Bytes, Collect, HubStep, HubStepSome, Sound, Broken, Collected, Committed, Continued, MakesCall, Stepped, AfterCrash, HoldsAllOrNone, events_of, FollowsJournal, IsCommitRefused, IsStepRefused, after_failure, after_step, reply_in};
 
 use crate::condition::Condition;
 use crate::fault::{CommitError, StepRefusal};

@@ -1,7 +1,6 @@
 //! Laws of a durable broker.
 
-ghost use Rattle.mq_durable.specs.Calls.{DurableLaws};
-ghost use Rattle.mq_durable.specs.Determined.{ReplayLaws};
+ghost use Rattle.mq_durable.specs.Prelude.{DurableLaws, ReplayLaws};
 
 use mq_decode::{one_reading, reads_again};
 use mq_log::Disk;

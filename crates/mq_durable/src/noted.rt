@@ -1,11 +1,7 @@
 //! Steps of a broker whose events are encoded behind an entry.
 
 ghost use Rattle.std.specs.Prelude.{◌≡◌, ◌+◌, ◌<◌, ◌≤◌, ◌^◌, [], ◌++◌, true, length, take, IfOk, IfErr, OnOk, OnErr};
-ghost use Rattle.mq_record.specs.Encoding.{event_bytes, is_recorded};
-ghost use Rattle.mq_route.specs.declared.event.HubEvent.TheVariants.{Bytes, Collect};
-ghost use Rattle.mq_route.specs.Step.{HubStep};
-ghost use Rattle.mq_route.specs.StepSome.{HubStepSome};
-ghost use Rattle.mq_durable.specs.State.{IsNotNoted, IsNotStepped};
+ghost use Rattle.mq_durable.specs.Prelude.{event_bytes, is_recorded, Bytes, Collect, HubStep, HubStepSome, IsNotNoted, IsNotStepped};
 
 use crate::fault::StepRefusal;
 use mq_hub::Hub;

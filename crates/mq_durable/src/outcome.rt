@@ -1,7 +1,7 @@
 //! The condition of a broker after a step.
 
 ghost use Rattle.std.specs.Prelude.{◌≡◌, Ok};
-ghost use Rattle.mq_durable.specs.State.{after_refusal, after_sound_step, after_step, reply_in};
+ghost use Rattle.mq_durable.specs.Prelude.{after_refusal, after_sound_step, after_step, reply_in};
 
 use crate::condition::Condition;
 use crate::fault::StepRefusal;

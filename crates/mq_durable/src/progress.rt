@@ -1,10 +1,7 @@
 //! Stepping a broker through recorded events.
 
 ghost use Rattle.std.specs.Prelude.{◌≡◌, ◌∷◌, [], IfOk, OnOk};
-ghost use Rattle.mq_record.specs.Reading.{IsEntry};
-ghost use Rattle.mq_durable.specs.Recorded.{AreReadable, events_in, events_in_all};
-ghost use Rattle.mq_durable.specs.Recovering.{Continues, opened_by};
-ghost use Rattle.mq_durable.specs.Replaying.{Replays};
+ghost use Rattle.mq_durable.specs.Prelude.{IsEntry, AreReadable, events_in, events_in_all, Continues, opened_by, Replays};
 
 use crate::fault::RecoverError;
 use crate::report::reports_memory;

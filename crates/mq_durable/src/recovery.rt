@@ -1,12 +1,7 @@
 //! Restoring a broker from its journal.
 
 ghost use Rattle.std.specs.Prelude.{◌≡◌, ◌≢◌, ◌⊎◌, ◌∷◌, [], List, true, IfOk, OnOk};
-ghost use Rattle.mq_log.specs.Blocks.{gate, rest};
-ghost use Rattle.mq_log.specs.declared.reader.Tail.TheVariants.{Closed, Torn};
-ghost use Rattle.mq_route.specs.declared.conn.Conn.{Conn};
-ghost use Rattle.mq_durable.specs.Recorded.{IsReadable, events_of};
-ghost use Rattle.mq_durable.specs.Recovering.{AreKnownAmong, HasEnded, latest};
-ghost use Rattle.mq_durable.specs.Replaying.{Replays};
+ghost use Rattle.mq_durable.specs.Prelude.{gate, rest, Closed, Torn, Conn, IsReadable, events_of, AreKnownAmong, HasEnded, latest, Replays};
 
 use crate::fault::RecoverError;
 use crate::progress::{Progress, replay_on};

@@ -1,7 +1,7 @@
 //! Replies that report that an allocation failed.
 
 ghost use Rattle.std.specs.Prelude.{◌≡◌};
-ghost use Rattle.mq_durable.specs.Memory.{is_for_memory, is_memory, lacks_memory, reports_memory};
+ghost use Rattle.mq_durable.specs.Prelude.{is_for_memory, is_memory, lacks_memory, reports_memory};
 
 use mq_end::CloseReason;
 use mq_route::{Act, HubClose, HubReply};

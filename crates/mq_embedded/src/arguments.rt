@@ -1,12 +1,7 @@
 //! Values from the bytes of a caller.
 
 ghost use Rattle.std.specs.Prelude.{◌≡◌, ◌≤◌, ◌<◌, ◌^◌, ◌∷◌, [], true, Some, length, IfOk, IfErr};
-ghost use Rattle.mq_wire.specs.Text.{IsText};
-ghost use Rattle.mq_topic.specs.Qos.{qos_number};
-ghost use Rattle.mq_topic.specs.Topic.{IsTopicFilter, IsTopicName};
-ghost use Rattle.mq_decode.specs.Limits.{strict};
-ghost use Rattle.mq_bytes.specs.Arguments.{IsLoginOf, IsMessageOf, IsPasswordOf, IsWillOf};
-ghost use Rattle.mq_embedded.specs.Arguments.{AreLoginParts, AreMessageParts, AreRequestParts, AreWillParts, IsArgumentFault, IsPasswordPart, IsRequestOf};
+ghost use Rattle.mq_embedded.specs.Prelude.{IsText, qos_number, IsTopicFilter, IsTopicName, strict, IsLoginOf, IsMessageOf, IsPasswordOf, IsWillOf, AreLoginParts, AreMessageParts, AreRequestParts, AreWillParts, IsArgumentFault, IsPasswordPart, IsRequestOf};
 
 use crate::fault::CallFault;
 use bytes::Bytes;

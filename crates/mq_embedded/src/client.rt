@@ -1,11 +1,7 @@
 //! The client.
 
 ghost use Rattle.std.specs.Prelude.{◌≡◌, ◌↔◌, ◌<◌, [], IsTrue, IfSome, IfOk, IfErr};
-ghost use Rattle.mq_flow.specs.SavedTwo.{IsSavedAs};
-ghost use Rattle.mq_end.specs.Deadline.{IsDeadline};
-ghost use Rattle.mq_end.specs.KeepAlive.{pings};
-ghost use Rattle.mq_embedded.specs.Calls.{Connects, Drops, Hears, IsIdle, Leaves, Pings, Publishes, Receives, Saves, Subscribes, TakesEvent, TakesOutput, Unsubscribes};
-ghost use Rattle.mq_embedded.specs.Starts.{IsBlank, IsLoadFault, Loads, Starts};
+ghost use Rattle.mq_embedded.specs.Prelude.{IsSavedAs, IsDeadline, pings, Connects, Drops, Hears, IsIdle, Leaves, Pings, Publishes, Receives, Saves, Subscribes, TakesEvent, TakesOutput, Unsubscribes, IsBlank, IsLoadFault, Loads, Starts};
 
 use crate::arguments::{filters, message, requests};
 use crate::event::Event;

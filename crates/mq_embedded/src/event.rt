@@ -1,10 +1,7 @@
 //! Events as numbers and bytes.
 
 ghost use Rattle.std.specs.Prelude.{◌≡◌, ◌≤◌, length};
-ghost use Rattle.std.specs.List.{flat_map};
-ghost use Rattle.mq_packet.specs.Encoding.{code_fields};
-ghost use Rattle.mq_bytes.specs.Buffers.{Filled};
-ghost use Rattle.mq_embedded.specs.Calls.{ShowsEvent, ShowsMessage, event_bytes};
+ghost use Rattle.mq_embedded.specs.Prelude.{flat_map, code_fields, Filled, ShowsEvent, ShowsMessage, event_bytes};
 
 use mq_bytes::put;
 use mq_end::Happening;

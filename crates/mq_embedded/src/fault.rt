@@ -1,7 +1,7 @@
 //! Why a call is refused.
 
 ghost use Rattle.std.specs.Prelude.{◌≡◌};
-ghost use Rattle.mq_embedded.specs.Faults.{publish_fault};
+ghost use Rattle.mq_embedded.specs.Prelude.{publish_fault};
 
 use mq_end::PublishRefusal;
 use thiserror::Error;

@@ -1,8 +1,7 @@
 //! Pending events.
 
 ghost use Rattle.std.specs.Prelude.{◌≡◌, ◌↔◌, ◌++◌, [], IsTrue, IfNone, option_to_list, unwrap_or};
-ghost use Rattle.mq_embedded.specs.Calls.{TakesEvent};
-ghost use Rattle.mq_embedded.specs.Queue.{queued};
+ghost use Rattle.mq_embedded.specs.Prelude.{TakesEvent, queued};
 
 use crate::event::{Event, event_of, no_event, write_event};
 use crate::fault::CallFault;

@@ -1,7 +1,7 @@
 //! Lists that contracts see as such.
 
 ghost use Rattle.std.specs.Prelude.{◌≡◌};
-ghost use Rattle.std.specs.List.{AllZip};
+ghost use Rattle.mq_end.specs.Prelude.{AllZip};
 
 use std::alloc::AllocError;
 use std::marker::Model;

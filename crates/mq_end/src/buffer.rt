@@ -1,9 +1,7 @@
 //! The buffer of pending output.
 
 ghost use Rattle.std.specs.Prelude.{◌≡◌, ℕ, ◌+◌, ◌-◌, ◌<◌, ◌≤◌, ◌^◌, List, [], ◌++◌, length, drop, take, true, IsOk, IfOk, OnOk, OnErr};
-ghost use Rattle.mq_packet.specs.Publication.{fits_delivery};
-ghost use Rattle.mq_packet.specs.Encoding.{Encodes, fields};
-ghost use Rattle.mq_end.specs.Ready.{whole_size};
+ghost use Rattle.mq_end.specs.Prelude.{fits_delivery, Encodes, fields, whole_size};
 
 use bytes::Bytes;
 use mq_packet::{Delivery, Message, Packet, encode_into, encode_publish_into};

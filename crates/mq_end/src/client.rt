@@ -1,21 +1,8 @@
 //! The client end.
 
 ghost use Rattle.std.specs.Prelude.{◌≡◌, ◌<◌, ◌≤◌, ◌↔◌, ◌⊎◌, ◌∷◌, ◌++◌, IsErrOf, ℕ, [], true, false, length, drop, IfOk, IfErr, IfSome, IfNone, IsSome, OnOk, OnErr, Err, None, Some};
+ghost use Rattle.mq_end.specs.Prelude.{packet_of, blank_end, is_live, over, resumed, publish_refusal, connects, subscribes, subscribe_refusal, unsubscribes, unsubscribe_refusal, leaves, leave_refusal, PutsOut, bytes_less, no_bytes, no_room, Acts, ClientReceives, ClientTakes, Accepts, connect_of, pings, IsDeadline, Requests, Ticks, KeepsWindow, FitsWithin, NamesAnother, kept_session, AreWithin, IsSession, saved_form_two};
 ghost use Rattle.mq_packet.specs.declared.packet.Packet.TheVariants as packets;
-ghost use Rattle.mq_decode.specs.Views.{packet_of};
-ghost use Rattle.mq_end.specs.End.{blank_end, is_live, over, resumed};
-ghost use Rattle.mq_end.specs.Both.{publish_refusal};
-ghost use Rattle.mq_end.specs.Client.{connects, subscribes, subscribe_refusal, unsubscribes, unsubscribe_refusal, leaves, leave_refusal};
-ghost use Rattle.mq_end.specs.State.{PutsOut, bytes_less, no_bytes, no_room};
-ghost use Rattle.mq_end.specs.Receiving.{Acts, ClientReceives, ClientTakes};
-ghost use Rattle.mq_end.specs.Publishing.{Accepts, connect_of};
-ghost use Rattle.mq_end.specs.KeepAlive.{pings};
-ghost use Rattle.mq_end.specs.Deadline.{IsDeadline};
-ghost use Rattle.mq_end.specs.Requests.{Requests, Ticks};
-ghost use Rattle.mq_end.specs.Laws.{KeepsWindow};
-ghost use Rattle.mq_end.specs.Resuming.{FitsWithin, NamesAnother, kept_session};
-ghost use Rattle.mq_flow.specs.Saved.{AreWithin, IsSession};
-ghost use Rattle.mq_flow.specs.SavedTwo.{saved_form_two};
 
 use crate::config::ClientConfig;
 use crate::endpoint::Endpoint;

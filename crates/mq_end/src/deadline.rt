@@ -1,7 +1,6 @@
 //! When `tick` next does something (3.1.2.10).
 
-ghost use Rattle.mq_end.specs.Deadline.{IsDeadline, is_overdue};
-ghost use Rattle.mq_end.specs.KeepAlive.{pings};
+ghost use Rattle.mq_end.specs.Prelude.{IsDeadline, is_overdue, pings};
 
 use crate::endpoint::Endpoint;
 use crate::state::State;

@@ -1,13 +1,7 @@
 //! The state that both ends share: session, connection and pending bytes.
 
 ghost use Rattle.std.specs.Prelude.{◌≡◌, ◌+◌, ◌<◌, ◌≤◌, ◌^◌, ◌++◌, ◌∷◌, [], List, ℕ, length, true, false, IsOk, OnOk, OnErr};
-ghost use Rattle.mq_packet.specs.Encoding.{Encodes, fields};
-ghost use Rattle.mq_flow.specs.Sender.{blank_book, all_sent};
-ghost use Rattle.mq_flow.specs.Receiver.{none_received};
-ghost use Rattle.mq_end.specs.End.{End, blank_end, over, renewed};
-ghost use Rattle.mq_end.specs.Ready.{whole_size};
-ghost use Rattle.mq_end.specs.Server.{opens};
-ghost use Rattle.mq_end.specs.State.{no_bytes, no_room};
+ghost use Rattle.mq_end.specs.Prelude.{Encodes, fields, blank_book, all_sent, none_received, End, blank_end, over, renewed, whole_size, opens, no_bytes, no_room};
 ghost use Rattle.mq_end.specs.declared.state.State.TheVariants as states;
 
 use crate::lazy_decoder::LazyDecoder;

@@ -1,16 +1,9 @@
 //! The first packet of a connection (3.1, 3.2), and the retransmissions that follow it (4.4).
 
 ghost use Rattle.std.specs.Prelude.{◌≡◌, ◌∷◌, [], IsOk, IfOk, OnOk, OnErr};
+ghost use Rattle.mq_end.specs.Prelude.{resent, client_open_gets, connack_gets, server_open_gets, refuses, comes_up, renewed, accepts_connect, connack_in, terms_get, terms_in, terms_of, AreEncodable, FitsRoom, Acts, Gives, PutsOut};
 ghost use Rattle.mq_packet.specs.declared.packet.Packet.TheVariants as packets;
 ghost use Rattle.mq_packet.specs.declared.connack.ConnAck.TheVariants as connacks;
-ghost use Rattle.mq_flow.specs.Sender.{resent};
-ghost use Rattle.mq_end.specs.Client.{client_open_gets, connack_gets};
-ghost use Rattle.mq_end.specs.Server.{server_open_gets, refuses};
-ghost use Rattle.mq_end.specs.End.{comes_up, renewed};
-ghost use Rattle.mq_end.specs.Opening.{accepts_connect, connack_in, terms_get, terms_in, terms_of};
-ghost use Rattle.mq_end.specs.Ready.{AreEncodable, FitsRoom};
-ghost use Rattle.mq_end.specs.Receiving.{Acts, Gives};
-ghost use Rattle.mq_end.specs.State.{PutsOut};
 
 use crate::endpoint::Endpoint;
 use crate::happening::Happening;

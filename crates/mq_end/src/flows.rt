@@ -1,14 +1,8 @@
 //! The packets of a message's flow, which both ends take in alike (4.3).
 
 ghost use Rattle.std.specs.Prelude.{◌≡◌, true, false, IsOk, IfOk, OnOk, OnErr, Some};
-ghost use Rattle.mq_topic.specs.declared.qos.Qos.TheVariants.{Q1, Q2};
+ghost use Rattle.mq_end.specs.Prelude.{Q1, Q2, fits_delivery, on_pubrel, same_qos, flow_gets, publish_gets, stores, FitsRoom, is_exactly_once, Acts, Gives, outcome_of};
 ghost use Rattle.mq_packet.specs.declared.packet.Packet.TheVariants as packets;
-ghost use Rattle.mq_packet.specs.Publication.{fits_delivery};
-ghost use Rattle.mq_flow.specs.Receiver.{on_pubrel};
-ghost use Rattle.mq_flow.specs.Sender.{same_qos};
-ghost use Rattle.mq_end.specs.Both.{flow_gets, publish_gets, stores};
-ghost use Rattle.mq_end.specs.Ready.{FitsRoom, is_exactly_once};
-ghost use Rattle.mq_end.specs.Receiving.{Acts, Gives, outcome_of};
 
 use crate::endpoint::Endpoint;
 use crate::packet_outcome::PacketOutcome;

@@ -1,9 +1,6 @@
 //! The laws of the ends.
 
-ghost use Rattle.mq_end.specs.SizeLaws.{SizeLaws};
-ghost use Rattle.mq_end.specs.ReadyLaws.{ReadyLaws};
-ghost use Rattle.mq_end.specs.Laws.{ClosingLaws, SoundLaws, WindowLaws};
-ghost use Rattle.mq_end.specs.KeepAlive.{KeepAliveLaws};
+ghost use Rattle.mq_end.specs.Prelude.{SizeLaws, ReadyLaws, ClosingLaws, SoundLaws, WindowLaws, KeepAliveLaws};
 
 /// After any list of packets and calls, the identifiers in use are 1 to 65,535, each is used once,
 /// and there are at most as many as the capacity (2.3.1).

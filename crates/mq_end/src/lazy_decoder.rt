@@ -1,7 +1,7 @@
 //! The decoder of an end.
 
 ghost use Rattle.std.specs.Prelude.{◌≡◌, ◌≤◌, ◌++◌, [], length, take, IfOk, IfErr, IfSome, IfNone, OnErr, Err};
-ghost use Rattle.mq_decode.specs.Grammar.{IsFront, Pending, ReadsWithin};
+ghost use Rattle.mq_end.specs.Prelude.{IsFront, Pending, ReadsWithin};
 
 use mq_decode::{DecodeError, Decoder, Limits, reads_again};
 use mq_packet::Packet;

@@ -1,10 +1,7 @@
 //! Pending output.
 
 ghost use Rattle.std.specs.Prelude.{◌≡◌, ℕ, ◌+◌, ◌-◌, ◌<◌, ◌≤◌, ◌^◌, List, [], ◌++◌, length, drop, take, true, None, IsOk, IfOk, IfSome, OnOk, OnErr};
-ghost use Rattle.mq_packet.specs.Publication.{fits_delivery};
-ghost use Rattle.mq_packet.specs.Encoding.{Encodes, fields};
-ghost use Rattle.mq_end.specs.Ready.{whole_size};
-ghost use Rattle.mq_end.specs.Waiting.{pending};
+ghost use Rattle.mq_end.specs.Prelude.{fits_delivery, Encodes, fields, whole_size, pending};
 
 use crate::block::Block;
 use crate::buffer::Buffer;

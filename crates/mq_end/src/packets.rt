@@ -1,13 +1,9 @@
 //! Packets, one after another (4.6).
 
 ghost use Rattle.std.specs.Prelude.{◌≡◌, ◌<◌, ◌⊎◌, true, false, IsOk, IfOk, OnOk, OnErr};
+ghost use Rattle.mq_end.specs.Prelude.{Reply, closes, is_up, client_gets, client_up_gets, server_gets, server_up_gets, AreEncodable, FitsRoom, is_exactly_once, Gives, Makes, Stays, gets_as};
 ghost use Rattle.mq_end.specs.declared.reason.CloseReason.TheVariants as reasons;
 ghost use Rattle.mq_end.specs.declared.state.State.TheVariants as states;
-ghost use Rattle.mq_end.specs.End.{Reply, closes, is_up};
-ghost use Rattle.mq_end.specs.Client.{client_gets, client_up_gets};
-ghost use Rattle.mq_end.specs.Server.{server_gets, server_up_gets};
-ghost use Rattle.mq_end.specs.Ready.{AreEncodable, FitsRoom, is_exactly_once};
-ghost use Rattle.mq_end.specs.Receiving.{Gives, Makes, Stays, gets_as};
 
 use crate::endpoint::Endpoint;
 use crate::happening::Happening;

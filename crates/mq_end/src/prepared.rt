@@ -1,9 +1,8 @@
 //! Messages whose encoding is shared.
 
 ghost use Rattle.std.specs.Prelude.{◌≡◌, true, IfSome};
-ghost use Rattle.mq_packet.specs.Publication.{fits_delivery};
+ghost use Rattle.mq_end.specs.Prelude.{fits_delivery, Encodes};
 ghost use Rattle.mq_packet.specs.declared.packet.Packet.TheVariants as packets;
-ghost use Rattle.mq_packet.specs.Encoding.{Encodes};
 
 use crate::block::Block;
 use bytes::Bytes;

@@ -1,15 +1,8 @@
 //! Messages that an end's user publishes (3.3, 4.3).
 
 ghost use Rattle.std.specs.Prelude.{◌≡◌, ◌+◌, ◌<◌, ◌≤◌, ◌^◌, ℕ, List, [], ◌∷◌, length, true, false, nat_lt, IsOk, IfOk, IfErr, IfSome, IfNone, OnOk, OnErr, Err, None, Some};
-ghost use Rattle.mq_topic.specs.declared.qos.Qos.TheVariants.{Q0};
-ghost use Rattle.mq_flow.specs.Sender.{is_full};
+ghost use Rattle.mq_end.specs.Prelude.{Q0, is_full, Encodes, publish_refusal, has_identifier, publishes, publish_size, PutsOut, Accepts, HasRoom, size_at_once, whole_size};
 ghost use Rattle.mq_packet.specs.declared.packet.Packet.TheVariants as packets;
-ghost use Rattle.mq_packet.specs.Encoding.{Encodes};
-ghost use Rattle.mq_end.specs.Both.{publish_refusal, has_identifier, publishes};
-ghost use Rattle.mq_end.specs.Sizes.{publish_size};
-ghost use Rattle.mq_end.specs.State.{PutsOut};
-ghost use Rattle.mq_end.specs.Publishing.{Accepts};
-ghost use Rattle.mq_end.specs.Ready.{HasRoom, size_at_once, whole_size};
 
 use crate::block::Block;
 use crate::endpoint::Endpoint;

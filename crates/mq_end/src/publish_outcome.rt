@@ -1,8 +1,7 @@
 //! The result of a PUBLISH whose message stays with the caller.
 
 ghost use Rattle.std.specs.Prelude.{◌≡◌};
-ghost use Rattle.mq_end.specs.Receiving.{outcome_of};
-ghost use Rattle.mq_packet.specs.declared.message.Message.{Message};
+ghost use Rattle.mq_end.specs.Prelude.{outcome_of, Message};
 
 use crate::happening::Happening;
 use crate::packet_outcome::PacketOutcome;

@@ -1,8 +1,7 @@
 //! A queue of bytes.
 
 ghost use Rattle.std.specs.Prelude.{◌≡◌, ℕ, ◌≤◌, ◌==◌, List, [], ◌++◌, length, drop, take, true, IsOk, IfOk, OnOk, OnErr};
-ghost use Rattle.mq_packet.specs.Publication.{fits_delivery};
-ghost use Rattle.mq_packet.specs.Encoding.{Encodes};
+ghost use Rattle.mq_end.specs.Prelude.{fits_delivery, Encodes};
 
 use crate::output::Output;
 use bytes::Bytes;

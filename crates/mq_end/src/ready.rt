@@ -1,13 +1,7 @@
 //! Room that an end makes for messages before they are published.
 
 ghost use Rattle.std.specs.Prelude.{◌≡◌, ◌-◌, ◌&&◌, ℕ, List, not, nat_lt, length, filter, IfSome, IfNone, IfErr, OnOk, Err};
-ghost use Rattle.std.specs.List.{list_any};
-ghost use Rattle.mq_flow.specs.Sender.{uses};
-ghost use Rattle.mq_end.specs.End.{is_up};
-ghost use Rattle.mq_end.specs.Both.{has_identifier};
-ghost use Rattle.mq_end.specs.Ready.{HasRoom, publishes_size, size_at_once};
-ghost use Rattle.mq_end.specs.Server.{ready_refusal};
-ghost use Rattle.mq_end.specs.Sizes.{publish_size};
+ghost use Rattle.mq_end.specs.Prelude.{list_any, uses, is_up, has_identifier, HasRoom, publishes_size, size_at_once, ready_refusal, publish_size};
 
 use crate::endpoint::Endpoint;
 use crate::publish::publish_size;

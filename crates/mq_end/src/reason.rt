@@ -1,7 +1,7 @@
 //! Why a connection is closed.
 
 ghost use Rattle.std.specs.Prelude.{◌≡◌};
-ghost use Rattle.mq_end.specs.Codes.{close_code};
+ghost use Rattle.mq_end.specs.Prelude.{close_code};
 
 use mq_decode::DecodeFault;
 use mq_packet::RefusalCode;

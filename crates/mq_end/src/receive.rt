@@ -1,17 +1,8 @@
 //! Received bytes (4.2, 4.8).
 
 ghost use Rattle.std.specs.Prelude.{◌≡◌, ◌≤◌, ◌++◌, [], length, take, true, false, IsOk, IfOk, IfErr, IfSome, IfNone, OnErr, Ok, Err, None, Some};
-ghost use Rattle.mq_topic.specs.declared.qos.Qos.TheVariants.{Q2};
-ghost use Rattle.mq_packet.specs.Publication.{fits_delivery};
-ghost use Rattle.mq_decode.specs.Grammar.{IsFront, Pending, ReadsWithin};
-ghost use Rattle.mq_decode.specs.Views.{packet_of};
-ghost use Rattle.mq_flow.specs.Sender.{same_qos};
+ghost use Rattle.mq_end.specs.Prelude.{Q2, fits_delivery, IsFront, Pending, ReadsWithin, packet_of, same_qos, Reply, is_live, is_up, KeepsWindow, AreEncodable, FitsRoom, is_exactly_once, server_gets, Acts, HeardAs, Hears, IsBreak, ReceivesAs, Shows, TakesAs, TakesNext, TakesPacket, heard_as, is_answered, no_outcome, outcome_of};
 ghost use Rattle.mq_end.specs.declared.state.State.TheVariants as states;
-ghost use Rattle.mq_end.specs.End.{Reply, is_live, is_up};
-ghost use Rattle.mq_end.specs.Laws.{KeepsWindow};
-ghost use Rattle.mq_end.specs.Ready.{AreEncodable, FitsRoom, is_exactly_once};
-ghost use Rattle.mq_end.specs.Server.{server_gets};
-ghost use Rattle.mq_end.specs.Receiving.{Acts, HeardAs, Hears, IsBreak, ReceivesAs, Shows, TakesAs, TakesNext, TakesPacket, heard_as, is_answered, no_outcome, outcome_of};
 
 use crate::endpoint::Endpoint;
 use crate::packet_outcome::PacketOutcome;

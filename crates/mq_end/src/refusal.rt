@@ -1,7 +1,7 @@
 //! Why a call of an end's user is refused.
 
 ghost use Rattle.std.specs.Prelude.{◌≡◌};
-ghost use Rattle.mq_end.specs.Codes.{refusal_code};
+ghost use Rattle.mq_end.specs.Prelude.{refusal_code};
 
 use thiserror::Error;
 

@@ -1,18 +1,8 @@
 //! Requests to the other end, and responses to its requests (3.8 to 3.12, 3.14).
 
 ghost use Rattle.std.specs.Prelude.{◌≡◌, ℕ, ◌+◌, List, ◌∷◌, [], length, true, false, not, if◌then◌else◌, nat_lt, IsOk, IfOk, IfErr, IfSome, IfNone, OnOk, OnErr, Err, None, Some};
-ghost use Rattle.mq_packet.specs.declared.message.Message.{Message};
-ghost use Rattle.mq_packet.specs.Encoding.{fields};
-ghost use Rattle.mq_flow.specs.Sender.{is_full, claim, IsFree};
+ghost use Rattle.mq_end.specs.Prelude.{Message, fields, is_full, claim, IsFree, is_up, puts_out, subscribe_size, unsubscribe_size, suback_size, unsuback_size, subscribe_refusal, unsubscribe_refusal, leave_refusal, subscribes, unsubscribes, leaves, answer_refusal, suback_refusal, unsuback_refusal, subacks, unsubacks, is_due, is_late, pings, server_ticks, HasRoom, whole_size, Acts, Requests, Ticks};
 ghost use Rattle.mq_end.specs.declared.refusal.PublishRefusal.TheVariants as refusals;
-ghost use Rattle.mq_end.specs.End.{is_up, puts_out};
-ghost use Rattle.mq_end.specs.Sizes.{subscribe_size, unsubscribe_size, suback_size, unsuback_size};
-ghost use Rattle.mq_end.specs.Client.{subscribe_refusal, unsubscribe_refusal, leave_refusal, subscribes, unsubscribes, leaves};
-ghost use Rattle.mq_end.specs.Server.{answer_refusal, suback_refusal, unsuback_refusal, subacks, unsubacks};
-ghost use Rattle.mq_end.specs.KeepAlive.{is_due, is_late, pings, server_ticks};
-ghost use Rattle.mq_end.specs.Ready.{HasRoom, whole_size};
-ghost use Rattle.mq_end.specs.Receiving.{Acts};
-ghost use Rattle.mq_end.specs.Requests.{Requests, Ticks};
 
 use crate::endpoint::Endpoint;
 use crate::laws::size_laws;

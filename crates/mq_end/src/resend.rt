@@ -1,12 +1,8 @@
 //! Retransmissions after a reconnect (4.4).
 
 ghost use Rattle.std.specs.Prelude.{◌≡◌, ◌+◌, ◌≤◌, ◌++◌, false, List, ℕ, length, map, IsOk, OnOk, OnErr};
-ghost use Rattle.std.specs.List.{list_any};
-ghost use Rattle.mq_topic.specs.declared.qos.Qos.TheVariants.{Q0};
+ghost use Rattle.mq_end.specs.Prelude.{list_any, Q0, resent, publish_packet, same_qos, AreEncodable, FitsRoom, packets_size, PutsOut};
 ghost use Rattle.mq_packet.specs.declared.packet.Packet.TheVariants as packets;
-ghost use Rattle.mq_flow.specs.Sender.{resent, publish_packet, same_qos};
-ghost use Rattle.mq_end.specs.Ready.{AreEncodable, FitsRoom, packets_size};
-ghost use Rattle.mq_end.specs.State.{PutsOut};
 
 use crate::endpoint::Endpoint;
 use crate::output::Output;

@@ -1,12 +1,8 @@
 //! Reserves room for connecting (3.2, 4.4).
 
 ghost use Rattle.std.specs.Prelude.{◌≡◌, ◌≤◌, ℕ, List, false, length, map, IfSome, OnOk};
-ghost use Rattle.std.specs.List.{list_any};
-ghost use Rattle.mq_topic.specs.declared.qos.Qos.TheVariants.{Q0};
+ghost use Rattle.mq_end.specs.Prelude.{list_any, Q0, resent, publish_packet, same_qos, AreEncodable, HasRise, HasRoom, packets_size, opens, server_gets};
 ghost use Rattle.mq_packet.specs.declared.packet.Packet.TheVariants as packets;
-ghost use Rattle.mq_flow.specs.Sender.{resent, publish_packet, same_qos};
-ghost use Rattle.mq_end.specs.Ready.{AreEncodable, HasRise, HasRoom, packets_size};
-ghost use Rattle.mq_end.specs.Server.{opens, server_gets};
 
 use crate::endpoint::Endpoint;
 use crate::publish::publish_size;

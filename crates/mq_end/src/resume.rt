@@ -1,9 +1,8 @@
 //! Ends that continue a stored session (3.1.2.4, 4.1).
 
 ghost use Rattle.std.specs.Prelude.{◌≡◌, ◌↔◌, [], IsTrue};
-ghost use Rattle.mq_end.specs.End.{resumed};
+ghost use Rattle.mq_end.specs.Prelude.{resumed, FitsWithin, NamesAnother};
 ghost use Rattle.mq_end.specs.declared.state.State.TheVariants as states;
-ghost use Rattle.mq_end.specs.Resuming.{FitsWithin, NamesAnother};
 
 use crate::endpoint::Endpoint;
 use crate::lazy_decoder::LazyDecoder;

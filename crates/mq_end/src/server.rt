@@ -1,21 +1,7 @@
 //! The server end.
 
 ghost use Rattle.std.specs.Prelude.{◌≡◌, ◌+◌, ◌<◌, ◌≤◌, ◌++◌, ◌↔◌, ℕ, List, [], ◌∷◌, true, false, length, drop, IsOk, IfOk, IfErr, IfSome, IfNone, IsSome, OnOk, OnErr, Ok, Err, None, Some};
-ghost use Rattle.mq_topic.specs.declared.qos.Qos.TheVariants.{Q2};
-ghost use Rattle.mq_packet.specs.Publication.{fits_delivery};
-ghost use Rattle.mq_decode.specs.Views.{packet_of};
-ghost use Rattle.mq_flow.specs.Sender.{same_qos};
-ghost use Rattle.mq_end.specs.End.{blank_end, is_live, is_up, over, resumed};
-ghost use Rattle.mq_end.specs.Server.{would_hand, opens, ready_refusal, server_gets, server_publish_refusal, subacks, suback_refusal, unsubacks, unsuback_refusal};
-ghost use Rattle.mq_end.specs.Receiving.{Acts, HearsAt, ServerReceives, Shows, TakesOne, TakesPacket, no_outcome, outcome_of};
-ghost use Rattle.mq_end.specs.Publishing.{Accepts};
-ghost use Rattle.mq_end.specs.Ready.{CanRise, FitsRoom, HasRise, HasRoom, is_exactly_once, packets_size, whole_size};
-ghost use Rattle.mq_end.specs.Sizes.{suback_size, unsuback_size};
-ghost use Rattle.mq_end.specs.State.{bytes_less, no_bytes, no_room};
-ghost use Rattle.mq_end.specs.KeepAlive.{server_ticks};
-ghost use Rattle.mq_end.specs.Deadline.{IsDeadline, is_overdue};
-ghost use Rattle.mq_end.specs.Laws.{KeepsWindow};
-ghost use Rattle.mq_end.specs.Resuming.{FitsWithin};
+ghost use Rattle.mq_end.specs.Prelude.{Q2, fits_delivery, packet_of, same_qos, blank_end, is_live, is_up, over, resumed, would_hand, opens, ready_refusal, server_gets, server_publish_refusal, subacks, suback_refusal, unsubacks, unsuback_refusal, Acts, HearsAt, ServerReceives, Shows, TakesOne, TakesPacket, no_outcome, outcome_of, Accepts, CanRise, FitsRoom, HasRise, HasRoom, is_exactly_once, packets_size, whole_size, suback_size, unsuback_size, bytes_less, no_bytes, no_room, server_ticks, IsDeadline, is_overdue, KeepsWindow, FitsWithin};
 ghost use Rattle.mq_end.specs.declared.state.State.TheVariants as states;
 
 use crate::config::ServerConfig;

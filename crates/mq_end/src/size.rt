@@ -1,9 +1,7 @@
 //! The number of bytes of packets.
 
 ghost use Rattle.std.specs.Prelude.{◌≡◌, ◌<◌, ◌≤◌, ◌^◌, length};
-ghost use Rattle.mq_wire.specs.Length.{length_bytes};
-ghost use Rattle.mq_packet.specs.Encoding.{encoded_size};
-ghost use Rattle.mq_end.specs.Sizes.{publish_size};
+ghost use Rattle.mq_end.specs.Prelude.{length_bytes, encoded_size, publish_size};
 
 use crate::publish::publish_size;
 use mq_packet::Message;

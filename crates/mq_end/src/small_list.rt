@@ -1,9 +1,6 @@
 //! Lists that are short for the most part: one item needs no memory of its own.
 
 ghost use Rattle.std.specs.Prelude.{◌≡◌, ◌<◌, ◌∷◌, ◌++◌, [], length, IsOk, OnOk, OnErr, IfOk};
-ghost use Rattle.std.specs.List.{AllZip};
-ghost use Rattle.std.specs.Iterator.{YieldsFirst, item_count};
-ghost use Rattle.std.specs.Iterator.Runs.{YieldsInOrder};
 
 use std::alloc::{AllocError, Global};
 use std::marker::Model;
@@ -109,6 +106,8 @@ impl<T: Drop> SmallListBuilder<T> {
 }
 
 impl<T: Clone> Clone for SmallListBuilder<T> {
+    ghost use Rattle.mq_end.specs.Prelude.{AllZip};
+
     ghost is_clone = { λ g copy. AllZip T.is_clone g.items copy.items };
 
     /// Clones of the items.
@@ -160,6 +159,8 @@ impl<T: Drop> SmallList<T> {
 }
 
 impl<T: Drop> IntoIterator for SmallList<T> {
+    ghost use Rattle.mq_end.specs.Prelude.{YieldsFirst, YieldsInOrder};
+
     type Item = T;
 
     type IntoIter = SmallListIntoIter<T>;
@@ -193,6 +194,8 @@ impl<T> Model for SmallListIntoIter<T> {
 }
 
 impl<T: Drop> Iterator for SmallListIntoIter<T> {
+    ghost use Rattle.mq_end.specs.Prelude.{YieldsFirst, item_count};
+
     type Item = T;
 
     ghost next_gives = { YieldsFirst (λ rest. rest) };
@@ -208,6 +211,8 @@ impl<T: Drop> Iterator for SmallListIntoIter<T> {
 }
 
 impl<T: Clone> Clone for SmallList<T> {
+    ghost use Rattle.mq_end.specs.Prelude.{AllZip};
+
     ghost is_clone = { λ list copy. AllZip T.is_clone list copy };
 
     /// A list of clones of the items.

@@ -2,12 +2,9 @@
 //! acknowledgements need no copy.
 
 ghost use Rattle.std.specs.Prelude.{◌≡◌, ◌⊎◌, true, IfOk, OnOk, OnErr};
+ghost use Rattle.mq_end.specs.Prelude.{packet_of, Reply, closes, is_up, flow_gets, Makes, Stays, gets_as};
 ghost use Rattle.mq_packet.specs.declared.packet.Packet.TheVariants as packets;
-ghost use Rattle.mq_decode.specs.Views.{packet_of};
 ghost use Rattle.mq_end.specs.declared.reason.CloseReason.TheVariants as reasons;
-ghost use Rattle.mq_end.specs.End.{Reply, closes, is_up};
-ghost use Rattle.mq_end.specs.Both.{flow_gets};
-ghost use Rattle.mq_end.specs.Receiving.{Makes, Stays, gets_as};
 
 use crate::endpoint::Endpoint;
 use crate::happening::Happening;

@@ -2,3 +2,4 @@ pub mod Boxed
 pub mod Clients
 pub mod Codes
 pub mod Exports
+pub mod Prelude

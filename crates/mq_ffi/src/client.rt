@@ -1,12 +1,7 @@
 //! A client behind a handle. Each function takes the client out, calls it, and puts it back.
 
 ghost use Rattle.std.specs.Prelude.{◌≡◌, ◌⊎◌, ◌↔◌, ◌<◌, IsTrue, true, None, Some, IsSome, Ok, Err, IfOk, IfErr, IfSome, OnOk, OnErr};
-ghost use Rattle.mq_embedded.specs.Calls.{Connects, Drops, IsIdle, Leaves, Pings, Publishes, Receives, Saves, Subscribes, TakesEvent, TakesOutput, Unsubscribes};
-ghost use Rattle.mq_bytes.specs.Arguments.{IsLoginOf, IsWillOf};
-ghost use Rattle.mq_embedded.specs.Arguments.{AreLoginParts, AreWillParts, IsArgumentFault};
-ghost use Rattle.mq_embedded.specs.Starts.{Starts};
-ghost use Rattle.mq_ffi.specs.Clients.{AreOptions, Calls, Codes, HasOptions, IsNextTick, Makes, Passes};
-ghost use Rattle.mq_ffi.specs.Codes.{call_code, closed_code, count_code};
+ghost use Rattle.mq_ffi.specs.Prelude.{Connects, Drops, IsIdle, Leaves, Pings, Publishes, Receives, Saves, Subscribes, TakesEvent, TakesOutput, Unsubscribes, IsLoginOf, IsWillOf, AreLoginParts, AreWillParts, IsArgumentFault, Starts, AreOptions, Calls, Codes, HasOptions, IsNextTick, Makes, Passes, call_code, closed_code, count_code};
 
 use crate::codes::{call_code, closed_code, id_code, size_code};
 use crate::handle::Handle;

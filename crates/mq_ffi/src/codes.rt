@@ -1,7 +1,7 @@
 //! The numbers that the functions return.
 
 ghost use Rattle.std.specs.Prelude.{◌≡◌, ◌<◌, ◌^◌, IfOk, pos};
-ghost use Rattle.mq_ffi.specs.Codes.{call_code, call_fault_code, check_code, closed_code, count_code, encode_code, fault_code, match_code, reason_number};
+ghost use Rattle.mq_ffi.specs.Prelude.{call_code, call_fault_code, check_code, closed_code, count_code, encode_code, fault_code, match_code, reason_number};
 
 use mq_bytes::{CheckFault, EncodeFault};
 use mq_embedded::CallFault;

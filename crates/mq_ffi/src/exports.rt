@@ -1,12 +1,7 @@
 //! Functions over bytes.
 
 ghost use Rattle.std.specs.Prelude.{◌≡◌, ◌≤◌, ◌<◌, ◌^◌, ◌↔◌, ◌⊎◌, pos, negsuc, IsSome, IfSome};
-ghost use Rattle.mq_topic.specs.Match.{Match};
-ghost use Rattle.mq_topic.specs.Topic.{IsTopicFilter, IsTopicName};
-ghost use Rattle.mq_bytes.specs.Arguments.{IsAcknowledgementOf, IsBareOf, IsConnAckOf, IsConnectOf, IsListOf, IsLoginOf, IsPublishOf, IsWillOf};
-ghost use Rattle.mq_bytes.specs.Buffers.{Gives};
-ghost use Rattle.mq_bytes.specs.Checks.{IsSavedSession};
-ghost use Rattle.mq_ffi.specs.Exports.{CodesOf, ReportsFront, ReportsPacket, bounds};
+ghost use Rattle.mq_ffi.specs.Prelude.{Match, IsTopicFilter, IsTopicName, IsAcknowledgementOf, IsBareOf, IsConnAckOf, IsConnectOf, IsListOf, IsLoginOf, IsPublishOf, IsWillOf, Gives, IsSavedSession, CodesOf, ReportsFront, ReportsPacket, bounds};
 
 use crate::codes::{check_code, encode_code, match_code};
 use mq_bytes::{Front, PacketFields};

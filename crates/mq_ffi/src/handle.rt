@@ -1,10 +1,7 @@
 //! A value on the heap, as its address.
 
 ghost use Rattle.std.specs.Prelude.{◌≡◌, Option, None, Some, IsSome};
-ghost use Rattle.std.specs.Coded.{coded_option};
-ghost use Rattle.mq_embedded.specs.contracts.client.Client.{the_row};
-ghost use Rattle.mq_embedded.specs.Calls.{WithEvents};
-ghost use Rattle.mq_ffi.specs.Boxed.{boxed};
+ghost use Rattle.mq_ffi.specs.Prelude.{coded_option, the_row, WithEvents, boxed};
 
 use crate::raw_box::RawBox;
 use mq_embedded::Client;

@@ -1,7 +1,7 @@
 //! A box as its address.
 
 ghost use Rattle.std.specs.Prelude.{◌≡◌};
-ghost use Rattle.std.specs.Box.Ownership.{box_owns};
+ghost use Rattle.mq_ffi.specs.Prelude.{box_owns};
 
 use std::alloc::Allocator;
 use std::marker::Model;

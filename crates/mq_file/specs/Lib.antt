@@ -2,4 +2,5 @@ pub mod FolderHistory
 pub mod Folders
 pub mod History
 pub mod Named
+pub mod Prelude
 pub mod Times

@@ -1,8 +1,7 @@
 //! Errors of a folder.
 
 ghost use Rattle.std.specs.Prelude.{◌≡◌, ◌≢◌, true, false, Ok, Err, Some, None, IfErr, IfOk, IsOk, OnOk};
-ghost use Rattle.std.specs.IoError.{error_kind};
-ghost use Rattle.mq_file.specs.Folders.{IsNotWritten, lock_error};
+ghost use Rattle.mq_file.specs.Prelude.{error_kind, IsNotWritten, lock_error};
 
 use std::fs::TryLockError;
 use std::io;

@@ -1,9 +1,7 @@
 //! The folder of a broker's files.
 
 ghost use Rattle.std.specs.Prelude.{◌≡◌, ◌≢◌, ◌⊎◌, Ok, Err, Some, IfErr, IfOk, OnOk};
-ghost use Rattle.mq_file.specs.FolderHistory.{files_after};
 ghost use Rattle.mq_file.specs.Folders.{IsNotWritten};
-ghost use Rattle.mq_file.specs.Named.{AreApart, IsEitherPair, IsSwitched, Removed, Throughout};
 
 use crate::error::{FolderError, check_lock, is_new, opened, read, written};
 use crate::folder_record::FolderRecord;
@@ -37,6 +35,8 @@ impl Model for Folder {
 }
 
 impl Folder {
+    ghost use Rattle.mq_file.specs.Prelude.{files_after, AreApart, IsEitherPair, IsSwitched, Removed, Throughout};
+
     /// Opens and locks a folder. A missing one is created, durably, and only its user may read it.
     ///
     /// Errors:
@@ -158,6 +158,8 @@ fn remove_file<R: Files<File = File>>(rt: &R, name: &str) -> io::Result<()> {
 }
 
 impl<R: Files<File = File>> NamedFiles for FolderFiles<'_, R> {
+    ghost use Rattle.mq_file.specs.Prelude.{files_after};
+
     ghost folder = { λ f. Some (files_after f.history.calls) };
 
     #[tactic(auto, using(crate::proofs::Folders::file_not_written))]

@@ -2,7 +2,7 @@
 
 ghost use Rattle.std.specs.Prelude.{◌≡◌, List, []};
 ghost use Rattle.std.specs.Borrow.{ftrue};
-ghost use Rattle.mq_file.specs.FolderHistory.{FolderCall, IsNoted};
+ghost use Rattle.mq_file.specs.FolderHistory.{FolderCall};
 
 use std::marker::{Model, PhantomData};
 
@@ -18,6 +18,8 @@ impl Model for FolderRecord {
 }
 
 impl FolderRecord {
+    ghost use Rattle.mq_file.specs.Prelude.{IsNoted};
+
     /// A record without calls.
     pub(crate) fn new() -> FolderRecord
         ensures { result.calls ≡ [] }

@@ -1,9 +1,7 @@
 //! A file of the system as a disk.
 
 ghost use Rattle.std.specs.Prelude.{◌≡◌, ◌≤◌, ◌+◌, [], length, max, IfOk, IfSome, OnErr, OnOk};
-ghost use Rattle.mq_log.specs.Disk.{Elapses, Follows, HasCause, Holds, Torn};
-ghost use Rattle.mq_file.specs.History.{LeftSince, MayLeave, failures, file_size, seen_after};
-ghost use Rattle.mq_file.specs.Times.{left_now, now_only};
+ghost use Rattle.mq_file.specs.Prelude.{Elapses, Follows, HasCause, Holds, Torn, LeftSince, MayLeave, failures, file_size, seen_after, left_now, now_only};
 
 use crate::record::Record;
 use mq_log::{Disk, DiskError};

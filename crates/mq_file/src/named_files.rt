@@ -1,8 +1,7 @@
 //! Files by name, how one is replaced, and how a folder continues in another journal.
 
 ghost use Rattle.std.specs.Prelude.{◌≡◌, List, [], ℕ, None, Option, IfErr, OnErr, OnOk};
-ghost use Rattle.mq_file.specs.Folders.{IsNotWritten};
-ghost use Rattle.mq_file.specs.Named.{AreApart, Content, Files, IsEitherPair, IsOldOrNew, IsReplaced, IsSwitched, Leads, OthersAreKept, OthersStay, Related, Removed, Renamed, Synced, Throughout, Unchanged, Writes};
+ghost use Rattle.mq_file.specs.Prelude.{IsNotWritten, AreApart, Content, Files, IsEitherPair, IsOldOrNew, IsReplaced, IsSwitched, Leads, OthersAreKept, OthersStay, Related, Removed, Renamed, Synced, Throughout, Unchanged, Writes};
 
 use crate::error::{FolderError, written};
 use std::io;

@@ -1,8 +1,7 @@
 //! A record of calls that only clauses read.
 
 ghost use Rattle.std.specs.Prelude.{◌≡◌, List, [], ◌∷◌};
-ghost use Rattle.std.specs.Borrow.{ftrue};
-ghost use Rattle.mq_file.specs.History.{FileCall, call_of};
+ghost use Rattle.mq_file.specs.Prelude.{ftrue, FileCall, call_of};
 
 use std::marker::{Model, PhantomData};
 

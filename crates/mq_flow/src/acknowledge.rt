@@ -1,7 +1,7 @@
 //! Acknowledgements at the sender (4.3.2, 4.3.3).
 
 ghost use Rattle.std.specs.Prelude.{◌≡◌};
-ghost use Rattle.mq_flow.specs.Sender.{on_puback, on_pubrec, on_pubcomp, puback_reaction, pubrec_reaction, pubcomp_reaction};
+ghost use Rattle.mq_flow.specs.Prelude.{on_puback, on_pubrec, on_pubcomp, puback_reaction, pubrec_reaction, pubcomp_reaction};
 
 use crate::reaction::Reaction;
 use crate::sender::Sender;

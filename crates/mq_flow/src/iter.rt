@@ -1,9 +1,7 @@
 //! Iterators over the sender's state.
 
 ghost use Rattle.std.specs.Prelude.{◌≡◌, [], ◌∷◌, length, MatchOption};
-ghost use Rattle.std.specs.Iterator.{at_most};
-ghost use Rattle.std.specs.Map.Iter.{TakesFirst, deref};
-ghost use Rattle.mq_flow.specs.Held.{messages, releases, pairs_in};
+ghost use Rattle.mq_flow.specs.Prelude.{at_most, TakesFirst, deref, messages, releases, pairs_in};
 
 use crate::entry::Entry;
 use crate::table::Held;

@@ -1,8 +1,6 @@
 //! The laws of the sender's book.
 
-ghost use Rattle.mq_flow.specs.Laws.{IdentifierLaws, ReceiverLaws, SendingLaws, StrayLaws};
-ghost use Rattle.mq_flow.specs.Next.{NextLaws};
-ghost use Rattle.mq_flow.specs.SavedLaws.{SavedLaws, SavedTwoLaws};
+ghost use Rattle.mq_flow.specs.Prelude.{IdentifierLaws, ReceiverLaws, SendingLaws, StrayLaws, NextLaws, SavedLaws, SavedTwoLaws};
 
 use mq_wire::text_laws;
 

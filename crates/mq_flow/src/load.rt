@@ -2,12 +2,7 @@
 //! bytes, and gives the value and the bytes after it.
 
 ghost use Rattle.std.specs.Prelude.{◌≡◌, ℕ, if◌then◌else◌, ◌↔◌, ◌+◌, ◌≤◌, ◌<◌, ◌^◌, length, true, false, Err, IfOk, OnOk, OnErr, IsErrOf, MatchResult};
-ghost use Rattle.mq_topic.specs.declared.qos.Qos.TheVariants.{Q0};
-ghost use Rattle.mq_flow.specs.Sender.{IsFree, is_full, uses, blank_book};
-ghost use Rattle.mq_flow.specs.Receiver.{none_received};
-ghost use Rattle.mq_flow.specs.Codes.{load_code};
-ghost use Rattle.mq_flow.specs.Saved.{Saved, IsSession};
-ghost use Rattle.mq_flow.specs.Loading.{Same, Gives, Loads, number_at, count_at, capacity_at, number_within, free_at, qos_at, flag_at, flags_at, topic_at, is_over_limit, payload_at, message_at, entry_at, with_entry_at, entries_at, with_released, with_released_at, released_at, sender_at, next_at, received_at, receiver_at, end_at, session_at, read_session, has_version};
+ghost use Rattle.mq_flow.specs.Prelude.{Q0, IsFree, is_full, uses, blank_book, none_received, load_code, Saved, IsSession, Same, Gives, Loads, number_at, count_at, capacity_at, number_within, free_at, qos_at, flag_at, flags_at, topic_at, is_over_limit, payload_at, message_at, entry_at, with_entry_at, entries_at, with_released, with_released_at, released_at, sender_at, next_at, received_at, receiver_at, end_at, session_at, read_session, has_version};
 
 use crate::entry::Entry;
 use crate::receiver::Receiver;
@@ -75,7 +70,7 @@ pub(crate) enum Unread {
 
 impl From<BadField> for Unread {
     ghost use Rattle.std.specs.Prelude.{◌≡◌};
-    ghost use Rattle.mq_flow.specs.declared.load.Unread.TheVariants.{Bad};
+    ghost use Rattle.mq_flow.specs.Prelude.{Bad};
 
     ghost from_gives = { λ bad e. e ≡ Bad bad };
 
@@ -86,7 +81,7 @@ impl From<BadField> for Unread {
 
 impl From<AllocError> for Unread {
     ghost use Rattle.std.specs.Prelude.{◌≡◌};
-    ghost use Rattle.mq_flow.specs.declared.load.Unread.TheVariants.{Memory};
+    ghost use Rattle.mq_flow.specs.Prelude.{Memory};
 
     ghost from_gives = { λ _ e. e ≡ Memory };
 

@@ -1,8 +1,7 @@
 //! Counting entries, and searching the identifiers of requests.
 
 ghost use Rattle.std.specs.Prelude.{◌≡◌, ◌<◌, ◌==◌, ◌&&◌, not, length, is_some, IfSome, HoldsAt};
-ghost use Rattle.std.specs.List.{list_any};
-ghost use Rattle.mq_flow.specs.Sender.{held, is_subscribe};
+ghost use Rattle.mq_flow.specs.Prelude.{list_any, held, is_subscribe};
 
 use crate::claim::{Claim, Claimed};
 use crate::iter::Entries;

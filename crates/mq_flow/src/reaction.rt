@@ -1,7 +1,7 @@
 //! The effect of an acknowledgement on the sender, and why a message is refused.
 
 ghost use Rattle.std.specs.Prelude.{◌≡◌};
-ghost use Rattle.mq_flow.specs.Codes.{sender_code};
+ghost use Rattle.mq_flow.specs.Prelude.{sender_code};
 
 use mq_packet::PacketId;
 use thiserror::Error;

@@ -1,11 +1,8 @@
 //! The receiver's state (4.3.3).
 
 ghost use Rattle.std.specs.Prelude.{◌≡◌, ◌↔◌, true, false, IsTrue, IsErrOf, IfOk, OnOk, OnErr, Some, None, if◌then◌else◌};
-ghost use Rattle.mq_topic.specs.declared.qos.Qos.TheVariants.{Q0, Q1, Q2};
 ghost use Rattle.mq_packet.specs.declared.packet.Packet.TheVariants as packets;
 ghost use Rattle.std.specs.FinSet as set;
-ghost use Rattle.mq_flow.specs.Receiver.{none_received, is_new, on_publish, on_pubrel};
-ghost use Rattle.mq_flow.specs.Window.{fits_window};
 
 use crate::reaction::ReceiveRefusal;
 use mq_packet::{Message, Packet, PacketId};
@@ -37,6 +34,8 @@ impl Model for Receiver {
 }
 
 impl Receiver {
+    ghost use Rattle.mq_flow.specs.Prelude.{Q0, Q1, Q2, none_received, is_new, on_publish, on_pubrel, fits_window};
+
     /// Makes a receiver that has stored no identifier.
     pub fn new(alloc: Global) -> Receiver
         ensures { result ≡ none_received }

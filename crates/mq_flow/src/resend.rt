@@ -1,10 +1,8 @@
 //! Retransmission after a reconnect (4.4).
 
 ghost use Rattle.std.specs.Prelude.{◌≡◌, ◌++◌, false, length, take, map, OnOk, OnErr};
-ghost use Rattle.std.specs.List.{list_any};
-ghost use Rattle.mq_topic.specs.declared.qos.Qos.TheVariants.{Q0};
+ghost use Rattle.mq_flow.specs.Prelude.{list_any, Q0, resent, all_sent, publish_packet, same_qos};
 ghost use Rattle.mq_packet.specs.declared.packet.Packet.TheVariants as packets;
-ghost use Rattle.mq_flow.specs.Sender.{resent, all_sent, publish_packet, same_qos};
 
 use crate::iter::{Entries, Releases};
 use crate::sender::Sender;

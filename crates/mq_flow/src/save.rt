@@ -1,17 +1,8 @@
 //! Writing the saved form of a session (4.1).
 
 ghost use Rattle.std.specs.Prelude.{◌≡◌, ◌++◌, ◌<◌, ◌^◌, ℕ, true, length, take, OnOk, OnErr};
-ghost use Rattle.std.specs.List.{flat_map};
+ghost use Rattle.mq_flow.specs.Prelude.{flat_map, nat_cmp, IsOrdered, IsTopicName, IsIdentifier, messages, releases, AreIdentifiers, number, counted, count, saved_payload, saved_flags, saved_entry, saved_ids, saved_sender, saved_receiver, saved_form, signature, without_claims, AreWithin, HaveTopics, IsSenderWithin, IsSession};
 ghost use Rattle.std.specs.FinSet as set;
-ghost use Rattle.std.specs.Ordering.{nat_cmp};
-ghost use Rattle.std.specs.BTreeSet.{IsOrdered};
-ghost use Rattle.mq_topic.specs.Topic.{IsTopicName};
-ghost use Rattle.mq_packet.specs.Identifier.{IsIdentifier};
-ghost use Rattle.mq_flow.specs.Held.{messages, releases};
-ghost use Rattle.mq_flow.specs.Receiver.{AreIdentifiers};
-ghost use Rattle.mq_wire.specs.Number.{number};
-ghost use Rattle.mq_wire.specs.Text.{counted};
-ghost use Rattle.mq_flow.specs.Saved.{count, saved_payload, saved_flags, saved_entry, saved_ids, saved_sender, saved_receiver, saved_form, signature, without_claims, AreWithin, HaveTopics, IsSenderWithin, IsSession};
 
 use crate::entry::Entry;
 use crate::receiver::Receiver;

@@ -1,10 +1,8 @@
 //! Sessions as they are saved, with the client that they belong to (3.1.2.4, 3.1.3.1, 4.1).
 
 ghost use Rattle.std.specs.Prelude.{◌≡◌, ◌↔◌, ◌++◌, ℕ, false, length, Result, take, IfOk, OnOk, OnErr, IsErrOf, MatchResult};
-ghost use Rattle.mq_flow.specs.Saved.{AreWithin, IsSession, without_claims};
-ghost use Rattle.mq_flow.specs.Loading.{Gives, Loads, has_version, placed};
+ghost use Rattle.mq_flow.specs.Prelude.{AreWithin, IsSession, without_claims, Gives, Loads, has_version, placed, IsSavedAs, first_at, has_version_two, read_saved, saved_form_two, second_at, text_at};
 ghost use Rattle.mq_flow.specs.declared.saved.Saved as value;
-ghost use Rattle.mq_flow.specs.SavedTwo.{IsSavedAs, first_at, has_version_two, read_saved, saved_form_two, second_at, text_at};
 
 use crate::load::{BadField, LoadError, Unread, flag, session};
 use crate::save::{SIGNATURE, put_state, put_text};

@@ -1,14 +1,7 @@
 //! The sender's state (2.3.1, 4.3.2, 4.3.3, 4.4).
 
 ghost use Rattle.std.specs.Prelude.{ℕ, ◌≡◌, ◌↔◌, ◌<◌, ◌≤◌, ◌+◌, ◌-◌, ◌==◌, ◌&&◌, if◌then◌else◌, true, false, nat_lt, length, [], IsSome, IfSome, IsTrue, IsOk, IfOk, IfErr, OnOk, OnErr, IsErrOf};
-ghost use Rattle.std.specs.List.{list_any};
-ghost use Rattle.std.specs.Map.Iter.{ShowsInOrder, GivesInOrder, deref};
-ghost use Rattle.mq_flow.specs.declared.entry.Entry.{Entry};
-ghost use Rattle.mq_topic.specs.declared.qos.Qos.TheVariants.{Q0, Q1, Q2};
-ghost use Rattle.mq_flow.specs.Laws.{IsSound};
-ghost use Rattle.mq_flow.specs.Next.{next_identifier};
-ghost use Rattle.mq_flow.specs.Sender.{blank_book, uses, times, IsFree, IsFirstFree, is_full, is_awaited, same_qos, held, accept as accepted, claim, release, no_claims, awaits_suback, awaits_unsuback};
-ghost use Rattle.mq_flow.specs.Stored.{stored_bytes};
+ghost use Rattle.mq_flow.specs.Sender.{same_qos, accept as accepted};
 
 use crate::claim::{Claim, Claimed};
 use crate::entry::Entry;
@@ -52,6 +45,8 @@ impl Model for Sender {
 }
 
 impl Sender {
+    ghost use Rattle.mq_flow.specs.Prelude.{list_any, ShowsInOrder, GivesInOrder, deref, Entry, Q0, Q1, Q2, IsSound, next_identifier, blank_book, uses, times, IsFree, IsFirstFree, is_full, is_awaited, held, claim, release, no_claims, awaits_suback, awaits_unsuback, stored_bytes};
+
     /// Makes a sender that has no message and gave no identifier, and in which at most `capacity`
     /// identifiers may be in use (2.3.1).
     pub fn new(alloc: Global, capacity: u16) -> Sender

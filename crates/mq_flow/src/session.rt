@@ -1,9 +1,7 @@
 //! The session of a client or a server (3.1.2.4, 4.1).
 
 ghost use Rattle.std.specs.Prelude.{◌≡◌, ◌↔◌, ◌<◌, true, IfOk, OnErr, IsErrOf};
-ghost use Rattle.mq_flow.specs.Next.{next_identifier};
-ghost use Rattle.mq_flow.specs.Sender.{blank_book, is_full, claim, release};
-ghost use Rattle.mq_flow.specs.Receiver.{none_received};
+ghost use Rattle.mq_flow.specs.Prelude.{next_identifier, blank_book, is_full, claim, release, none_received};
 
 use crate::claim::{Claim, Claimed};
 use crate::reaction::Refusal;

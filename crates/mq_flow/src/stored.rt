@@ -1,7 +1,7 @@
 //! The number of bytes of a message that a sender stores.
 
 ghost use Rattle.std.specs.Prelude.{◌≡◌, ◌<◌, ◌^◌};
-ghost use Rattle.mq_flow.specs.Stored.{message_bytes};
+ghost use Rattle.mq_flow.specs.Prelude.{message_bytes};
 
 use mq_packet::Message;
 

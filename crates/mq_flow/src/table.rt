@@ -4,12 +4,8 @@ ghost use Rattle.std.specs.Prelude.{ℕ, ◌≡◌, ◌+◌, ◌^◌, ◌<◌, �
 ghost use Rattle.std.specs.Option.{option_copied, option_map};
 ghost use Rattle.std.specs.HashMap.{get, hash_map_len, spare};
 ghost use Rattle.std.specs.Map.{keys_of, lookup, remove_entry};
-ghost use Rattle.std.specs.Map.Iter.{ShowsInOrder, GivesInOrder, deref};
-ghost use Rattle.mq_flow.specs.declared.entry.Entry.{Entry};
-ghost use Rattle.mq_flow.specs.Held.{bytes_found, bytes_in, bytes_under, messages, releases, gone_out, id_in, pairs_in, IsPlaced};
+ghost use Rattle.mq_flow.specs.Held.{bytes_found, bytes_in, messages, gone_out, id_in, pairs_in, IsPlaced};
 ghost use Rattle.mq_flow.specs.Sender.{times};
-ghost use Rattle.mq_flow.specs.Stored.{entry_bytes};
-ghost use Rattle.mq_flow.specs.declared.table.Held.{Held};
 
 use crate::entry::Entry;
 use crate::iter::{Entries, Releases};
@@ -66,6 +62,8 @@ impl Model for Table {
 }
 
 impl Table {
+    ghost use Rattle.mq_flow.specs.Prelude.{ShowsInOrder, GivesInOrder, deref, Entry, bytes_under, releases, entry_bytes, Held};
+
     /// An empty table.
     pub(crate) fn new(alloc: Global) -> Table
         ensures { result.pairs ≡ [] }

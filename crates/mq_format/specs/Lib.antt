@@ -1,5 +1,6 @@
+pub mod Format
+pub mod Json
 pub mod Layout
 pub mod Moment
-pub mod Json
+pub mod Prelude
 pub mod Reading
-pub mod Format

@@ -1,9 +1,7 @@
 //! The fields of a format, as they are printed.
 
 ghost use Rattle.std.specs.Prelude.{◌≡◌, ◌++◌, OnOk, codes, decimal};
-ghost use Rattle.mq_format.specs.Format.{digits_text, field_text, filler, first_entry, front, head_text, id_entry, id_number, json_text, last_entry, middle_text, number_entry, payload_text, stamp_text, text_entry};
-ghost use Rattle.mq_format.specs.Layout.{padded};
-ghost use Rattle.mq_format.specs.Moment.{instant_text};
+ghost use Rattle.mq_format.specs.Prelude.{digits_text, field_text, filler, first_entry, front, head_text, id_entry, id_number, json_text, last_entry, middle_text, number_entry, payload_text, stamp_text, text_entry, padded, instant_text};
 
 use crate::field::{Field, Layout};
 use crate::instant::{put_instant, put_unix};

@@ -1,7 +1,7 @@
 //! Formats, and how they are read.
 
 ghost use Rattle.std.specs.Prelude.{◌≡◌, ◌⊎◌, ◌≤◌, [], length, IfErr, IfOk, MatchResult, Ok, Err};
-ghost use Rattle.mq_format.specs.Reading.{FailsWith, Reads, after_layout, entry_of, escape_letters, field_letters, layout_at, named, number_at, piece_at, shown, time_letters};
+ghost use Rattle.mq_format.specs.Prelude.{FailsWith, Reads, after_layout, entry_of, escape_letters, field_letters, layout_at, named, number_at, piece_at, shown, time_letters};
 ghost use Rattle.mq_format.specs.declared.fault.FormatFault.TheVariants as faults;
 ghost use Rattle.mq_format.specs.declared.piece.Piece.TheVariants as pieces;
 

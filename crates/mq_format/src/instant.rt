@@ -1,7 +1,7 @@
 //! Times as they are printed.
 
 ghost use Rattle.std.specs.Prelude.{◌≡◌, ◌++◌, OnOk};
-ghost use Rattle.mq_format.specs.Moment.{clock_text, date_text, instant_text, time_text, unix_text, year_text};
+ghost use Rattle.mq_format.specs.Prelude.{clock_text, date_text, instant_text, time_text, unix_text, year_text};
 
 use crate::moment::{Moment, TimeField};
 use crate::pad::{put_decimal, put_number};

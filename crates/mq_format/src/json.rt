@@ -1,7 +1,7 @@
 //! Texts in JSON.
 
 ghost use Rattle.std.specs.Prelude.{◌≡◌, ◌++◌, OnOk};
-ghost use Rattle.mq_format.specs.Json.{escaped_byte, quoted};
+ghost use Rattle.mq_format.specs.Prelude.{escaped_byte, quoted};
 
 use crate::pad::put_hexadecimal;
 use std::alloc::AllocError;

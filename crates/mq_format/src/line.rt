@@ -1,8 +1,7 @@
 //! The line of a message.
 
 ghost use Rattle.std.specs.Prelude.{◌≡◌, ◌++◌, IfOk, OnOk};
-ghost use Rattle.std.specs.List.{flat_map};
-ghost use Rattle.mq_format.specs.Format.{line_end, line_text, payload_line, piece_text, verbose_line};
+ghost use Rattle.mq_format.specs.Prelude.{flat_map, line_end, line_text, payload_line, piece_text, verbose_line};
 
 use crate::fields::put_field;
 use crate::instant::put_time;

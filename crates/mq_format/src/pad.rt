@@ -3,7 +3,7 @@
 //! If memory runs out, a line may have a part of the text.
 
 ghost use Rattle.std.specs.Prelude.{◌≡◌, ◌<◌, ◌^◌, ◌++◌, OnOk, decimal, replicate};
-ghost use Rattle.mq_format.specs.Layout.{hexadecimal_digit, hexadecimal_text, padded, with_zeros};
+ghost use Rattle.mq_format.specs.Prelude.{hexadecimal_digit, hexadecimal_text, padded, with_zeros};
 
 use crate::field::Layout;
 use itoa::Buffer;

@@ -1,4 +1,5 @@
 pub mod Deadline
 pub mod Gauges
 pub mod Inside
+pub mod Prelude
 pub mod Run

@@ -1,11 +1,7 @@
 //! The log of each client over a run: the messages taken from it, placed for it and missed by it.
 
 ghost use Rattle.std.specs.Prelude.{◌≡◌, ◌++◌, [], ◌∷◌, List, length, IfOk, OnOk};
-ghost use Rattle.std.specs.List.{flat_map};
-ghost use Rattle.mq_route.specs.Runs.{AreAccounts};
-ghost use Rattle.mq_route.specs.declared.act.Act.{Act};
-ghost use Rattle.mq_route.specs.declared.act.Act.TheVariants.{Missed, Placed, Took};
-ghost use Rattle.mq_hub.specs.Inside.Logs.{all_noted, IsBlank};
+ghost use Rattle.mq_hub.specs.Prelude.{flat_map, AreAccounts, Act, Missed, Placed, Took, all_noted, IsBlank};
 
 use mq_end::BoxedList;
 use mq_packet::Message;

@@ -1,7 +1,7 @@
 //! Brokers with which a run may begin.
 
 ghost use Rattle.std.specs.Prelude.{◌≡◌, []};
-ghost use Rattle.mq_route.specs.Begun.{MayBegin};
+ghost use Rattle.mq_hub.specs.Prelude.{MayBegin};
 
 use crate::hub::HubOver;
 use mq_topic::FilterStore;

@@ -1,8 +1,7 @@
 //! The broker's state, and the queries on it.
 
 ghost use Rattle.std.specs.Prelude.{◌≡◌, ◌<◌, [], IfSome};
-ghost use Rattle.mq_route.specs.Hub.{knows, new_hub};
-ghost use Rattle.mq_route.specs.Step.{event_refusal};
+ghost use Rattle.mq_hub.specs.Prelude.{knows, new_hub, event_refusal};
 
 use mq_route::{Conn, HubConfig, HubEvent, HubRefusal};
 use mq_tables::{ConnectionLimits, Tables};

@@ -1,10 +1,7 @@
 //! Numbers of a broker for gauges and status pages.
 
 ghost use Rattle.std.specs.Prelude.{◌≡◌, ◌-◌, ◌^◌, length, min, option_map, slice_get, true};
-ghost use Rattle.std.specs.Option.{option_copied};
-ghost use Rattle.mq_flow.specs.Sender.{is_full};
-ghost use Rattle.mq_tables.specs.Numbers.{stored_at};
-ghost use Rattle.mq_hub.specs.Gauges.{counts_of, stored_in};
+ghost use Rattle.mq_hub.specs.Prelude.{option_copied, is_full, stored_at, counts_of, stored_in};
 
 use crate::hub::HubOver;
 use mq_tables::{BrokerSession, free_of, stored_of};

@@ -1,13 +1,7 @@
 //! Runs a broker over a list of events.
 
 ghost use Rattle.std.specs.Prelude.{◌≡◌, ℕ, ◌<◌, ◌⊎◌, [], length, Ok, Err, IfOk, IfErr, IfSome, None};
-ghost use Rattle.std.specs.List.{flat_map};
-ghost use Rattle.mq_route.specs.Hub.{new_hub};
-ghost use Rattle.mq_flow.specs.Receiver.{none_received};
-ghost use Rattle.mq_route.specs.Routed.{placed, routed, settled, taken};
-ghost use Rattle.mq_route.specs.Runs.{AreAccounts, IsRun, came_in};
-ghost use Rattle.mq_route.specs.Taken.{handed_from, of_client};
-ghost use Rattle.mq_hub.specs.Run.{IsFollowed, IsRefused, IsTraced, acts_in};
+ghost use Rattle.mq_hub.specs.Prelude.{flat_map, new_hub, none_received, placed, routed, settled, taken, AreAccounts, IsRun, came_in, handed_from, of_client, IsFollowed, IsRefused, IsTraced, acts_in};
 
 use crate::accounts::accounts_of;
 use crate::hub::{Hub, HubOver};

@@ -1,8 +1,7 @@
 //! One event of a broker (4.2).
 
 ghost use Rattle.std.specs.Prelude.{◌≡◌, ◌<◌, length, None, Err, IfOk, IfErr, IfSome, OnErr};
-ghost use Rattle.mq_route.specs.Step.{HubStep, event_refusal};
-ghost use Rattle.mq_route.specs.StepSome.{HubStepSome};
+ghost use Rattle.mq_hub.specs.Prelude.{HubStep, event_refusal, HubStepSome};
 
 use crate::hub::HubOver;
 use mq_route::{Conn, HubEvent, HubRefusal, HubReply};

@@ -1,22 +1,10 @@
 //! Handles a SUBSCRIBE (3.8).
 
 ghost use Rattle.std.specs.Prelude.{◌≡◌, ◌≤◌, ◌++◌, List, Bool, true, false, is_some, Ok, IfOk, OnErr};
-ghost use Rattle.mq_packet.specs.declared.message.Message.{Message};
+ghost use Rattle.mq_hub.specs.Prelude.{Message, subscribe_size, Act, Conn, answers, granted, on_passed_packet, HubState, for_key, up_on, close, have_room, retained_copies, CanServe, rules_of, AreAlike, Subscribes, Refines, HasSessions, IsFor, subscribed_acts};
 ghost use Rattle.mq_packet.specs.declared.packet.Packet.TheVariants as packets;
-ghost use Rattle.mq_end.specs.Sizes.{subscribe_size};
 ghost use Rattle.mq_end.specs.declared.happening.Happening.TheVariants as happens;
-ghost use Rattle.mq_route.specs.declared.act.Act.{Act};
 ghost use Rattle.mq_route.specs.declared.close.HubClose.TheVariants as whys;
-ghost use Rattle.mq_route.specs.declared.conn.Conn.{Conn};
-ghost use Rattle.mq_route.specs.Arrives.{answers, granted, on_passed_packet};
-ghost use Rattle.mq_route.specs.Hub.{HubState, for_key, up_on};
-ghost use Rattle.mq_route.specs.Work.{close, have_room, retained_copies};
-ghost use Rattle.mq_tables.specs.Calls.{CanServe};
-ghost use Rattle.mq_tables.specs.Rules.{rules_of};
-ghost use Rattle.mq_hub.specs.Inside.Requests.{AreAlike, Subscribes};
-ghost use Rattle.mq_hub.specs.Inside.Refinement.{Refines};
-ghost use Rattle.mq_hub.specs.Inside.Placement.{HasSessions, IsFor};
-ghost use Rattle.mq_hub.specs.Inside.Subscriptions.{subscribed_acts};
 
 use crate::acts::ActLog;
 use crate::hub::HubOver;

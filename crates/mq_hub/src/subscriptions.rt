@@ -1,7 +1,7 @@
 //! Removes the subscriptions of a client, and reports set and removed ones (3.8.4, 3.10.4).
 
 ghost use Rattle.std.specs.Prelude.{◌≡◌, ◌+◌, ◌≤◌, ◌++◌, length};
-ghost use Rattle.mq_hub.specs.Inside.Subscriptions.{subscribed_acts, unsubscribed_acts, without_rows};
+ghost use Rattle.mq_hub.specs.Prelude.{subscribed_acts, unsubscribed_acts, without_rows};
 
 use crate::acts::ActLog;
 use mq_packet::Request;

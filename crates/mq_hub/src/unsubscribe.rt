@@ -1,18 +1,9 @@
 //! Handles an UNSUBSCRIBE (3.10).
 
 ghost use Rattle.std.specs.Prelude.{◌≡◌, ◌≤◌, ◌++◌, [], Bool, true, is_some, OnOk, OnErr, IsSome};
+ghost use Rattle.mq_hub.specs.Prelude.{unsuback_size, Conn, answers, on_connected_packet, up_on, CanServe, AreSameButRoom, IsReadyAt, session_at, AreAlike, Answers, Refines, unsubscribed_acts, without_rows};
 ghost use Rattle.mq_packet.specs.declared.packet.Packet.TheVariants as packets;
-ghost use Rattle.mq_end.specs.Sizes.{unsuback_size};
 ghost use Rattle.mq_end.specs.declared.happening.Happening.TheVariants as happens;
-ghost use Rattle.mq_route.specs.declared.conn.Conn.{Conn};
-ghost use Rattle.mq_route.specs.Arrives.{answers, on_connected_packet};
-ghost use Rattle.mq_route.specs.Hub.{up_on};
-ghost use Rattle.mq_tables.specs.Calls.{CanServe};
-ghost use Rattle.mq_tables.specs.Publishing.{AreSameButRoom, IsReadyAt};
-ghost use Rattle.mq_tables.specs.Sessions.{session_at};
-ghost use Rattle.mq_hub.specs.Inside.Requests.{AreAlike, Answers};
-ghost use Rattle.mq_hub.specs.Inside.Refinement.{Refines};
-ghost use Rattle.mq_hub.specs.Inside.Subscriptions.{unsubscribed_acts, without_rows};
 
 use crate::acts::ActLog;
 use crate::hub::HubOver;

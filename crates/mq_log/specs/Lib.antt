@@ -6,3 +6,4 @@ pub mod Journal
 pub mod Laws
 pub mod Memory
 pub mod Past
+pub mod Prelude

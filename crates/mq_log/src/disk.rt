@@ -1,7 +1,6 @@
 //! A file as the journal uses it, and the contents that a crash may leave.
 
 ghost use Rattle.std.specs.Prelude.{◌≡◌, ◌≤◌, List, ℕ, length, IfOk, OnOk};
-ghost use Rattle.mq_log.specs.declared.disk.DiskError.TheVariants.{Memory};
 ghost use Rattle.mq_log.specs.Disk.{Only, Follows, Torn, Holds, Elapses, HasCause};
 
 use std::alloc::{AllocError, AllocFailed, Global};
@@ -22,6 +21,8 @@ pub enum DiskError {
 }
 
 impl From<AllocError> for DiskError {
+    ghost use Rattle.mq_log.specs.Prelude.{Memory};
+
     ghost from_gives = { λ _ e. e ≡ Memory };
 
     fn from(_: AllocError) -> Self {
@@ -30,6 +31,8 @@ impl From<AllocError> for DiskError {
 }
 
 impl<T: Drop> From<AllocFailed<T>> for DiskError {
+    ghost use Rattle.mq_log.specs.Prelude.{Memory};
+
     ghost from_gives = { λ _ e. e ≡ Memory };
 
     fn from(_: AllocFailed<T>) -> Self {

@@ -1,7 +1,7 @@
 //! A disk that stops, for tests.
 
 ghost use Rattle.std.specs.Prelude.{◌≡◌, ◌+◌, ◌-◌, ◌↔◌, IsErr};
-ghost use Rattle.mq_log.specs.Disk.{HasCause};
+ghost use Rattle.mq_log.specs.Prelude.{HasCause};
 
 use crate::{Disk, DiskError};
 use std::alloc::Global;
@@ -16,7 +16,7 @@ pub struct FreezingDisk<D: Disk> {
 }
 
 impl<D: Disk> FreezingDisk<D> {
-    ghost use Rattle.mq_log.specs.Freezing.{disk_of, calls_left};
+    ghost use Rattle.mq_log.specs.Prelude.{disk_of, calls_left};
 
     /// Wraps a disk, which then takes this number of calls.
     pub fn new(disk: D, calls: u64) -> Self

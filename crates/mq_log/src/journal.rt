@@ -1,9 +1,7 @@
 //! Appending entries.
 
 ghost use Rattle.std.specs.Prelude.{◌≡◌, ◌+◌, ◌<◌, ◌≤◌, ◌^◌, ◌++◌, [], ◌∷◌, List, ℕ, length, IfOk, OnOk, IsErrOf};
-ghost use Rattle.mq_log.specs.Blocks.{entries, at_rest, body};
-ghost use Rattle.mq_log.specs.Disk.{Only, LeavesOnly};
-ghost use Rattle.mq_log.specs.Journal.{IsSettled, IsBeforeOrAfter};
+ghost use Rattle.mq_log.specs.Prelude.{entries, at_rest, body, Only, LeavesOnly, IsSettled, IsBeforeOrAfter};
 
 use crate::sum::checksum;
 use crate::{Disk, DiskError};

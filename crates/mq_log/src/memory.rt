@@ -1,8 +1,8 @@
 //! A file in memory, for tests.
 
 ghost use Rattle.std.specs.Prelude.{◌≡◌, ◌⊎◌, [], ◌∷◌, ◌++◌, length, drop, OnOk, OnErr};
+ghost use Rattle.mq_log.specs.Prelude.{HadBeen, only_bytes};
 ghost use Rattle.std.proofs.Common.{inl};
-ghost use Rattle.mq_log.specs.Past.{HadBeen, only_bytes};
 
 use crate::{Disk, DiskError};
 use std::alloc::{AllocError, Global};
@@ -17,7 +17,7 @@ pub struct MemoryDisk {
 
 impl MemoryDisk {
     ghost use Rattle.std.specs.Prelude.{[]};
-    ghost use Rattle.mq_log.specs.Memory.{memory_bytes, past_contents};
+    ghost use Rattle.mq_log.specs.Prelude.{memory_bytes, past_contents};
 
     /// A file with these bytes, all of them synced.
     pub fn new(alloc: Global, bytes: Vec<u8>) -> Self

@@ -1,7 +1,7 @@
 //! Reading a journal's file.
 
 ghost use Rattle.std.specs.Prelude.{◌≡◌, ◌+◌, ◌<◌, ◌≤◌, ◌↔◌, length, map, drop, true, IsSome, IfSome, IfOk};
-ghost use Rattle.mq_log.specs.Blocks.{behind, entries, first_entry, is_block, number_in, rest, tail_of};
+ghost use Rattle.mq_log.specs.Prelude.{behind, entries, first_entry, is_block, number_in, rest, tail_of};
 
 use crate::sum::checksum;
 use std::alloc::{AllocError, Global};

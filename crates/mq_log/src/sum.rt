@@ -1,7 +1,7 @@
 //! The checksum of an entry.
 
 ghost use Rattle.std.specs.Prelude.{◌≡◌, ◌+◌, ◌*◌, ◌%◌, ◌<◌};
-ghost use Rattle.mq_log.specs.Checksum.{checksum};
+ghost use Rattle.mq_log.specs.Prelude.{checksum};
 
 // The factor of the polynomial, and its powers modulo 2^32.
 const FACTOR: u64 = 16_777_619;

@@ -1,13 +1,7 @@
 //! Brokers of a loop, whose steps are committed before their output is collected.
 
 ghost use Rattle.std.specs.Prelude.{◌≡◌, Bool, List, Option, None, true, take, ◌∷◌, [], IfOk, OnErr, OnOk};
-ghost use Rattle.mq_loop.specs.declared.broker.SnapshotNote.{SnapshotNote};
-ghost use Rattle.mq_route.specs.declared.event.HubEvent.TheVariants.{Bytes, Collect};
-ghost use Rattle.mq_route.specs.Hub.{HubState};
-ghost use Rattle.mq_route.specs.Step.{HubStep};
-ghost use Rattle.mq_route.specs.StepSome.{HubStepSome};
-ghost use Rattle.mq_loop.specs.Brokers.{Continues, is_input};
-ghost use Rattle.mq_loop.specs.Calls.{Call, commit, step, with_calls};
+ghost use Rattle.mq_loop.specs.Prelude.{SnapshotNote, Bytes, Collect, HubState, HubStep, HubStepSome, Continues, is_input, Call, commit, step, with_calls};
 
 use mq_hub::Hub;
 use mq_route::{Conn, HubEvent, HubRefusal, HubReply};

@@ -1,8 +1,7 @@
 //! One connection: its socket, and the output that the socket has not taken.
 
 ghost use Rattle.std.specs.Prelude.{◌≡◌, ◌≢◌, ◌==◌, ◌≤◌, ◌⊎◌, ◌||◌, [], true, false, not, drop, length};
-ghost use Rattle.mq_loop.specs.declared.connection.Flushed.TheVariants.{All, Blocked, Failed};
-ghost use Rattle.mq_loop.specs.Sockets.{ComesIn, Sends, finishes};
+ghost use Rattle.mq_loop.specs.Prelude.{All, Blocked, Failed, ComesIn, Sends, finishes};
 
 use crate::socket::{Socket, WriteOutcome};
 use bytes::Bytes;

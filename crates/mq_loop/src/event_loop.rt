@@ -1,10 +1,7 @@
 //! Rounds of a loop over all connections.
 
 ghost use Rattle.std.specs.Prelude.{◌≡◌, ◌<◌, ◌-◌, ◌^◌, ℕ, [], None, false, true, length, min, IfSome, IsErr, OnErr, OnOk};
-ghost use Rattle.mq_route.specs.Hub.{new_hub};
-ghost use Rattle.mq_loop.specs.Accounts.{IsServed};
-ghost use Rattle.mq_loop.specs.Calls.{IsRound, Quietly, age_at};
-ghost use Rattle.mq_loop.specs.Rounds.{AgesStay, AreBounded, IsEmpty, IsOpened, IsReached, IsSettled, connections_in, loop_without_notes, new_loop, pending_at};
+ghost use Rattle.mq_loop.specs.Prelude.{new_hub, IsServed, IsRound, Quietly, age_at, AgesStay, AreBounded, IsEmpty, IsOpened, IsReached, IsSettled, connections_in, loop_without_notes, new_loop, pending_at};
 
 mod input;
 
@@ -71,10 +68,10 @@ pub struct EventLoop<B: Broker + Drop, S: Socket + Drop, O: Observer + Drop> {
 }
 
 impl<B: Broker + Drop, S: Socket + Drop, O: Observer + Drop> Model for EventLoop<B, S, O> {
+    ghost use Rattle.std.specs.Prelude.{is_some};
     ghost use Rattle.std.specs.Coded.{codes, coded_ℕ};
     ghost use Rattle.std.specs.FinSet as set;
     ghost use Rattle.std.specs.Ordering.{nat_cmp};
-    ghost use Rattle.std.specs.Prelude.{is_some};
     ghost use Rattle.mq_loop.specs.Rounds.{LoopState};
 
     ghost Value = { LoopState O };
@@ -393,8 +390,7 @@ impl<B: Broker + Drop, S: Socket + Drop, O: Observer + Drop> EventLoop<B, S, O> 
 }
 
 impl<B: Broker + Drop, S: Socket + Drop, O: Observer + Drop> EventLoop<B, S, O> {
-    ghost use Rattle.std.specs.Borrow.{Lends, sem};
-    ghost use Rattle.mq_loop.specs.contracts.event_loop.EventLoop.{the_row};
+    ghost use Rattle.mq_loop.specs.Prelude.{Lends, sem, the_row};
 
     /// The observer, to be changed.
     pub fn observer_mut(&mut self) -> &mut O

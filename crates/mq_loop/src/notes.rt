@@ -1,11 +1,8 @@
 //! Notes about the acts of a broker: which connections may have output, and which are over.
 
 ghost use Rattle.std.specs.Prelude.{◌≡◌, ◌≤◌, ◌<◌, ◌⊎◌, ◌∷◌, [], ◌++◌, ℕ, Bool, true, IfNone, IfOk, IfSome, OnErr, OnOk, Some, None, false, length, nat_eq, slice_set, if◌then◌else◌};
-ghost use Rattle.std.specs.HashMap.{get};
-ghost use Rattle.mq_packet.specs.declared.message.Message.{Message};
+ghost use Rattle.mq_loop.specs.Prelude.{get, Message, name_at, IsNoted, IsRoomier};
 ghost use Rattle.mq_route.specs.declared.act.Act.TheVariants as acts;
-ghost use Rattle.mq_loop.specs.Accounts.{name_at};
-ghost use Rattle.mq_loop.specs.Rounds.{IsNoted, IsRoomier};
 
 use crate::place_set::PlaceSet;
 use crate::report::Report;

@@ -1,7 +1,7 @@
 //! Sets of places.
 
 ghost use Rattle.std.specs.Prelude.{◌≡◌, ◌<◌, ◌∷◌, [], ◌++◌, ℕ, false, true, IfNone, IfSome, OnErr, OnOk, OnSome, length, slice_set};
-ghost use Rattle.mq_loop.specs.Places.{count_in, is_in};
+ghost use Rattle.mq_loop.specs.Prelude.{count_in, is_in};
 
 use std::alloc::{AllocError, Global};
 use std::collections::VecDeque;

@@ -1,11 +1,8 @@
 //! A broker and the connections that it serves.
 
 ghost use Rattle.std.specs.Prelude.{◌≡◌, ◌+◌, ◌≤◌, ◌<◌, ◌==◌, ◌∷◌, [], ◌++◌, false, true, None, Some, IfErr, IfNone, IfOk, IfSome, OnErr, OnOk, OnSome, not, length, slice_set, take};
-ghost use Rattle.mq_route.specs.declared.event.HubEvent.TheVariants.{Bytes as BytesSeen, Collect, Ended, Opened, Tick};
-ghost use Rattle.mq_route.specs.Step.{HubStep};
-ghost use Rattle.mq_loop.specs.Accounts.{IsServed, line_at, name_at, without_notes};
-ghost use Rattle.mq_loop.specs.Calls.{Collecting, Reads, commit, step, with_calls};
-ghost use Rattle.mq_loop.specs.Rounds.{AtOutputs, Collects, Hears, HearsNothing, IsFlushed, IsGiven, IsSame, MayCollect, OthersStay, connections_in, exists_at, has_unread, kept_at, output_at, waiting_at};
+ghost use Rattle.mq_loop.specs.Prelude.{Collect, Ended, Opened, Tick, HubStep, IsServed, line_at, name_at, without_notes, Collecting, Reads, commit, step, with_calls, AtOutputs, Collects, Hears, HearsNothing, IsFlushed, IsGiven, IsSame, MayCollect, OthersStay, connections_in, exists_at, has_unread, kept_at, output_at, waiting_at};
+ghost use Rattle.mq_route.specs.declared.event.HubEvent.TheVariants.{Bytes as BytesSeen};
 
 use crate::broker::{Broker, CommitFailure, SnapshotBroker, SnapshotNote};
 use crate::connection::{Connection, Flushed};

@@ -1,10 +1,7 @@
 //! Sockets that never wait.
 
 ghost use Rattle.std.specs.Prelude.{◌≡◌, ◌≤◌, Bool, List, ℕ, Option, None, true, IfOk, IfSome, OnErr, length};
-ghost use Rattle.std.specs.Io.{ReadsAtMost, WritesAtMost};
-ghost use Rattle.mq_stream.specs.Stream.{IsUnread};
-ghost use Rattle.mq_loop.specs.declared.socket.WriteOutcome.TheVariants.{Nothing};
-ghost use Rattle.mq_loop.specs.Sockets.{ComesIn, GoesOut, IsTaken, IsWithin};
+ghost use Rattle.mq_loop.specs.Prelude.{ReadsAtMost, WritesAtMost, IsUnread, Nothing, ComesIn, GoesOut, IsTaken, IsWithin};
 
 use mq_stream::ReadOutcome;
 use std::io;

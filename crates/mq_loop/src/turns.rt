@@ -1,7 +1,7 @@
 //! The turns of connections in a round.
 
 ghost use Rattle.std.specs.Prelude.{◌≡◌, if◌then◌else◌};
-ghost use Rattle.mq_loop.specs.Inside.Turns.{IsOldestFirst, holding, must_wait, no_holds};
+ghost use Rattle.mq_loop.specs.Prelude.{IsOldestFirst, holding, must_wait, no_holds};
 
 use crate::reading::Reading;
 

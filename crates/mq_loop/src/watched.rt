@@ -1,10 +1,7 @@
 //! A broker and its connections, with notes about which have output and which are over.
 
 ghost use Rattle.std.specs.Prelude.{◌≡◌, ◌<◌, ◌≤◌, ◌+◌, ◌⊎◌, ◌||◌, ◌∷◌, [], ◌++◌, ◌-◌, ◌^◌, ℕ, false, true, not, ◌==◌, None, Some, IfOk, IfSome, IfNone, OnErr, OnOk, OnSome, length, min};
-ghost use Rattle.mq_loop.specs.Accounts.{IsServed, line_at, served_state, without_notes};
-ghost use Rattle.mq_loop.specs.Calls.{Collecting, Quietly, Reads, commit, with_calls};
-ghost use Rattle.mq_loop.specs.Places.{count_in};
-ghost use Rattle.mq_loop.specs.Rounds.{AreBounded, AreEnded, IsEmpty, IsReached, IsSettled, connections_in, ends_left, exists_at, has_unread, kept_at, pending_at, watched_state};
+ghost use Rattle.mq_loop.specs.Prelude.{IsServed, line_at, served_state, without_notes, Collecting, Quietly, Reads, commit, with_calls, count_in, AreBounded, AreEnded, IsEmpty, IsReached, IsSettled, connections_in, ends_left, exists_at, has_unread, kept_at, pending_at, watched_state};
 
 use crate::broker::{Broker, CommitFailure, SnapshotBroker, SnapshotNote};
 use crate::connection::Flushed;

@@ -1,8 +1,9 @@
+pub mod Barrier
+pub mod Clients
 pub mod File
+pub mod Judged
 pub mod Laws
 pub mod Ordered
-pub mod Judged
+pub mod Prelude
 pub mod Printed
 pub mod Program
-pub mod Clients
-pub mod Barrier

@@ -1,12 +1,7 @@
 //! The actions of a client over its connection.
 
 ghost use Rattle.std.specs.Prelude.{◌≡◌, ◌≤◌, ◌++◌, true, length, IfOk, OnOk};
-ghost use Rattle.std.specs.List.{flat_map};
-ghost use Rattle.mq_flow.specs.Receiver.{none_received};
-ghost use Rattle.mq_end.specs.End.{is_up};
-ghost use Rattle.mq_client.specs.Collecting.{handed};
-ghost use Rattle.mq_client.specs.Publishing.{AskedAll, AskedMore};
-ghost use Rattle.mq_loopback.specs.Clients.{Collected, IsNewClient, Published, Receives, Subscribed, asks_of, message_of};
+ghost use Rattle.mq_loopback.specs.Prelude.{flat_map, none_received, is_up, handed, AskedAll, AskedMore, Collected, IsNewClient, Published, Receives, Subscribed, asks_of, message_of};
 
 use crate::client::{Collector, Publisher};
 use crate::start_barrier::Start;

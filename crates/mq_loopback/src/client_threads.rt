@@ -1,8 +1,7 @@
 //! The clients of a loopback file, each in a thread of its own.
 
 ghost use Rattle.std.specs.Prelude.{◌≡◌, IfOk, IfSome, map, take, vec_len};
-ghost use Rattle.std.specs.List.{count_by};
-ghost use Rattle.mq_loopback.specs.Clients.{IsClientRun, IsRoleDone, is_collector};
+ghost use Rattle.mq_loopback.specs.Prelude.{count_by, IsClientRun, IsRoleDone, is_collector};
 
 use crate::client::{Client, Collector, Role};
 use crate::client_run::{client_end, collect, publish, subscribe};
@@ -182,7 +181,7 @@ impl<'a> ClientThreads<'a> {
 
 impl<'a> Workers for ClientThreads<'a> {
     ghost use Rattle.std.specs.Prelude.{IfSome};
-    ghost use Rattle.mq_loopback.specs.Clients.{IsClientRun};
+    ghost use Rattle.mq_loopback.specs.Prelude.{IsClientRun};
 
     ghost does = { λ _ part outcome. IfSome outcome (λ messages. IsClientRun part.client.now messages.items) };
 

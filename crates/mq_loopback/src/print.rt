@@ -1,9 +1,7 @@
 //! The lines of `loopback`.
 
 ghost use Rattle.std.specs.Prelude.{◌≡◌, ◌++◌, IfOk, OnOk, map};
-ghost use Rattle.std.specs.List.{flat_map};
-ghost use Rattle.std.specs.Io.KnownBytes.{Appends};
-ghost use Rattle.mq_loopback.specs.Printed.{bad_line, collected_lines, message_line, play_end_line, play_end_status, role_lines, unread_line, verdict_lines, verdict_status};
+ghost use Rattle.mq_loopback.specs.Prelude.{flat_map, Appends, bad_line, collected_lines, message_line, play_end_line, play_end_status, role_lines, unread_line, verdict_lines, verdict_status};
 
 use crate::client::{Client, Role};
 use crate::rig::RunError;

@@ -1,8 +1,7 @@
 //! The program `loopback`.
 
 ghost use Rattle.std.specs.Prelude.{◌<◌, ◌≤◌, IfOk, None, length};
-ghost use Rattle.mq_packet.specs.Lines.{Prints};
-ghost use Rattle.mq_loopback.specs.Program.{Ends, IsInputRun, IsLoopback, IsNoFile, IsRunDone};
+ghost use Rattle.mq_loopback.specs.Prelude.{Prints, Ends, IsInputRun, IsLoopback, IsNoFile, IsRunDone};
 
 use crate::client::Client;
 use crate::print::{write_bad_line, write_play_end, write_played, write_unread};

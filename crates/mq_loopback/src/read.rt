@@ -1,13 +1,7 @@
 //! Loopback files as they are read.
 
 ghost use Rattle.std.specs.Prelude.{◌≡◌, ◌<◌, ◌≤◌, ◌∷◌, ◌++◌, [], ℕ, List, codes, length, None, IfOk, IsErr, IsErrOf, IsTrue, OnOk, ◌↔◌};
-ghost use Rattle.std.specs.Io.BufRead.{strip_last};
-ghost use Rattle.mq_wire.specs.Text.{IsText};
-ghost use Rattle.mq_topic.specs.Topic.{IsTopicFilter};
-ghost use Rattle.mq_packet.specs.Lines.{escaped};
-ghost use Rattle.mq_schedule.specs.Parts.{Finds};
-ghost use Rattle.mq_schedule.specs.Schedule.{lines_of, words_of};
-ghost use Rattle.mq_loopback.specs.File.{AreClients, ArePayloads, IsBadLine, IsCount, IsFresh, Joins, Says};
+ghost use Rattle.mq_loopback.specs.Prelude.{strip_last, IsText, IsTopicFilter, escaped, Finds, lines_of, words_of, AreClients, ArePayloads, IsBadLine, IsCount, IsFresh, Joins, Says};
 
 use crate::client::{Client, Collector, Publisher, Role};
 use mq_end::BoxedList;

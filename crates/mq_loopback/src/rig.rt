@@ -1,9 +1,7 @@
 //! A broker and the clients of a loopback file, in threads.
 
 ghost use Rattle.std.specs.Prelude.{◌≡◌, ◌<◌, ◌≤◌, Err, IfOk, IsOkAnd, None, Ok, OnOk, Some, length, map, vec_len};
-ghost use Rattle.mq_book.specs.Pages.{journal_of};
-ghost use Rattle.mq_client.specs.declared.error.ClientError.{ClientError};
-ghost use Rattle.mq_loopback.specs.Program.{IsPlayed};
+ghost use Rattle.mq_loopback.specs.Prelude.{journal_of, ClientError, IsPlayed};
 
 use crate::client::Client;
 use crate::client_threads::ClientThreads;
@@ -55,8 +53,8 @@ pub enum RunError {
 
 impl From<AllocError> for RunError {
     ghost use Rattle.std.specs.Prelude.{◌≡◌};
+    ghost use Rattle.mq_loopback.specs.Prelude.{Broker};
     ghost use Rattle.mq_serve.specs.declared.serve_end.ServeEnd.TheVariants.{Memory};
-    ghost use Rattle.mq_loopback.specs.declared.rig.RunError.TheVariants.{Broker};
 
     ghost from_gives = { λ _ end. end ≡ Broker Memory };
 
@@ -67,7 +65,7 @@ impl From<AllocError> for RunError {
 
 impl From<ServeEnd> for RunError {
     ghost use Rattle.std.specs.Prelude.{◌≡◌};
-    ghost use Rattle.mq_loopback.specs.declared.rig.RunError.TheVariants.{Broker};
+    ghost use Rattle.mq_loopback.specs.Prelude.{Broker};
 
     ghost from_gives = { λ why end. end ≡ Broker why };
 

@@ -1,8 +1,7 @@
 //! The order in which messages are printed.
 
 ghost use Rattle.std.specs.Prelude.{IfOk, map};
-ghost use Rattle.std.specs.List.{AllZip};
-ghost use Rattle.mq_loopback.specs.Ordered.{IsOrdered};
+ghost use Rattle.mq_loopback.specs.Prelude.{AllZip, IsOrdered};
 
 use mq_packet::Message;
 use std::alloc::{AllocError, Global};

@@ -1,7 +1,7 @@
 //! When publishers start.
 
 ghost use Rattle.std.specs.Prelude.{◌≡◌, ◌↔◌, ◌-◌, IsTrue, None, is_some};
-ghost use Rattle.mq_loopback.specs.Barrier.{IsPending, first_fault, may_start};
+ghost use Rattle.mq_loopback.specs.Prelude.{IsPending, first_fault, may_start};
 
 use crate::client_run::Grant;
 use mq_client::ClientError;

@@ -1,7 +1,7 @@
 //! The verdict on a journal and on receipts.
 
 ghost use Rattle.std.specs.Prelude.{◌≡◌, ◌↔◌, IfOk, IfSome, IsTrue, ◌<◌};
-ghost use Rattle.mq_loopback.specs.Judged.{AllStand, IsReplayed, IsVerdict, events_in, replies_in};
+ghost use Rattle.mq_loopback.specs.Prelude.{AllStand, IsReplayed, IsVerdict, events_in, replies_in};
 
 use mq_book::{Entry, Journal, Receipt, are_same_replies, audit};
 use mq_hub::hub_run;

@@ -1,7 +1,8 @@
 pub mod Codes
-pub mod Identifier
-pub mod Publication
 pub mod Encoding
+pub mod Identifier
+pub mod Lines
+pub mod Prelude
+pub mod Publication
 pub mod Values
 pub mod Writing
-pub mod Lines

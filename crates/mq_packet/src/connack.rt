@@ -1,7 +1,7 @@
 //! CONNACK (3.2).
 
 ghost use Rattle.std.specs.Prelude.{◌≡◌};
-ghost use Rattle.mq_packet.specs.Codes.{refusal_number, refusal_from};
+ghost use Rattle.mq_packet.specs.Prelude.{refusal_number, refusal_from};
 
 /// CONNACK (3.2): the server's response to CONNECT.
 #[derive(Clone, Copy, Debug, PartialEq, Eq)]

@@ -1,9 +1,7 @@
 //! Encoding of packets (chapter 3).
 
 ghost use Rattle.std.specs.Prelude.{◌≡◌, ℕ, ◌+◌, ◌<◌, ◌≤◌, ◌^◌, ◌++◌, ◌∷◌, ◌↔◌, List, length, take, vec_len, vec_capacity, true, IsOk, OnOk, OnErr, IfErr, IfSome, IsSome, IsErrOf};
-ghost use Rattle.mq_wire.specs.Length.{Length, length_bytes};
-ghost use Rattle.mq_packet.specs.Publication.{fits_delivery, publication};
-ghost use Rattle.mq_packet.specs.Encoding.{Encodes, first_byte, fields, encoded_size};
+ghost use Rattle.mq_packet.specs.Prelude.{Length, length_bytes, fits_delivery, publication, Encodes, first_byte, fields, encoded_size};
 
 use crate::encoded::put_bytes;
 use crate::fields::{fields_len, publish_len, put_fields, put_publish};

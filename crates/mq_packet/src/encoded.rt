@@ -1,12 +1,7 @@
 //! Encoding of list items.
 
 ghost use Rattle.std.specs.Prelude.{◌≡◌, ◌+◌, ◌<◌, ◌≤◌, ◌^◌, ◌++◌, List, ℕ, length, vec_len, vec_capacity, IfSome, IsSome, ◌↔◌};
-ghost use Rattle.std.specs.List.{flat_map, AllByRecursion};
-ghost use Rattle.mq_wire.specs.Number.{number};
-ghost use Rattle.mq_wire.specs.Text.{counted};
-ghost use Rattle.mq_packet.specs.Values.{IsRequest, Always};
-ghost use Rattle.mq_packet.specs.Encoding.{request_fields, code_fields};
-ghost use Rattle.mq_topic.specs.Topic.{IsTopicFilter};
+ghost use Rattle.mq_packet.specs.Prelude.{flat_map, AllByRecursion, number, counted, IsRequest, Always, request_fields, code_fields, IsTopicFilter};
 
 use crate::packet::{Request, SubAckCode};
 use byteorder::{BigEndian, ByteOrder};

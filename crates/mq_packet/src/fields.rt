@@ -1,13 +1,7 @@
 //! Size and encoding of the fields behind the fixed header (chapter 3).
 
 ghost use Rattle.std.specs.Prelude.{◌≡◌, ℕ, ◌+◌, ◌<◌, ◌≤◌, ◌^◌, ◌++◌, ◌↔◌, length, vec_len, vec_capacity, true, IfSome, IsSome};
-ghost use Rattle.mq_packet.specs.Values.{IsPacket, IsBinary, IsConnect, IsPublication, IsWill, IsLogin, IsList};
-ghost use Rattle.mq_packet.specs.Identifier.{IsIdentifier};
-ghost use Rattle.mq_packet.specs.Publication.{fits_delivery, publication};
-ghost use Rattle.std.specs.List.{flat_map};
-ghost use Rattle.mq_wire.specs.Number.{number};
-ghost use Rattle.mq_packet.specs.Encoding.{fields, connect_protocol, connect_head, connect_fields, connect_flags, will_fields, login_fields, connack_fields, delivery_fields, password_fields, publish_fields};
-ghost use Rattle.mq_wire.specs.Text.{IsText, counted};
+ghost use Rattle.mq_packet.specs.Prelude.{IsPacket, IsBinary, IsConnect, IsPublication, IsWill, IsLogin, IsList, IsIdentifier, fits_delivery, publication, flat_map, number, fields, connect_protocol, connect_head, connect_fields, connect_flags, will_fields, login_fields, connack_fields, delivery_fields, password_fields, publish_fields, IsText, counted};
 
 use crate::binary::Binary;
 use crate::connack::ConnAck;

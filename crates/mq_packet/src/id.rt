@@ -24,7 +24,7 @@ impl Model for PacketId {
 }
 
 impl PacketId {
-    ghost use Rattle.mq_packet.specs.Identifier.{IsIdentifier};
+    ghost use Rattle.mq_packet.specs.Prelude.{IsIdentifier};
 
     /// The identifier with this number, or `None` for 0.
     pub fn new(number: u16) -> Option<PacketId>

@@ -1,6 +1,6 @@
 //! The laws of encodings.
 
-ghost use Rattle.mq_packet.specs.Encoding.{EncodingLaws};
+ghost use Rattle.mq_packet.specs.Prelude.{EncodingLaws};
 
 use mq_wire::length_laws;
 

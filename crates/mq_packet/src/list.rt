@@ -1,7 +1,6 @@
 //! Lists with at least one item.
 
 ghost use Rattle.std.specs.Prelude.{◌≡◌, ◌<◌, length};
-ghost use Rattle.std.specs.List.{AllZip};
 
 use std::alloc::AllocError;
 use std::marker::Model;
@@ -49,6 +48,8 @@ impl<T> NonEmpty<T> {
 }
 
 impl<T: Clone> Clone for NonEmpty<T> {
+    ghost use Rattle.mq_packet.specs.Prelude.{AllZip};
+
     ghost is_clone = { λ list copy. AllZip T.is_clone list copy };
 
     /// Clones each item.

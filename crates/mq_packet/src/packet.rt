@@ -1,7 +1,7 @@
 //! The fourteen control packets (chapter 3).
 
 ghost use Rattle.std.specs.Prelude.{◌≡◌};
-ghost use Rattle.mq_packet.specs.Codes.{code_number, code_from};
+ghost use Rattle.mq_packet.specs.Prelude.{code_number, code_from};
 
 use crate::connack::ConnAck;
 use crate::connect::BoxedConnect;

@@ -1,9 +1,7 @@
 //! Texts, bytes and packets as they are printed, each on one line without the line's end.
 
 ghost use Rattle.std.specs.Prelude.{◌≡◌, Some};
-ghost use Rattle.std.specs.List.{flat_map};
-ghost use Rattle.std.specs.Fmt.{DisplaysOnOk};
-ghost use Rattle.mq_packet.specs.Lines.{code_text, connack_text, connect_text, delivery_text, escaped, escaped_byte, filter_text, hex_of, identified, is_dup, login_text, packet_text, password_text, publish_text, request_text, will_text};
+ghost use Rattle.mq_packet.specs.Prelude.{flat_map, DisplaysOnOk, code_text, connack_text, connect_text, delivery_text, escaped, escaped_byte, filter_text, hex_of, identified, is_dup, login_text, packet_text, password_text, publish_text, request_text, will_text};
 
 use crate::binary::Binary;
 use crate::connack::ConnAck;

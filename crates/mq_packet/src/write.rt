@@ -1,9 +1,7 @@
 //! Writing packets to a `Write`.
 
 ghost use Rattle.std.specs.Prelude.{◌≡◌, ◌≤◌, ◌↔◌, ◌^◌, length, IfErr, OnErr, OnOk, IsErrOf};
-ghost use Rattle.std.specs.Io.KnownBytes.{Appends};
-ghost use Rattle.mq_packet.specs.Encoding.{fields};
-ghost use Rattle.mq_packet.specs.Writing.{AppendsFront, WritesPacket, FailsToWrite};
+ghost use Rattle.mq_packet.specs.Prelude.{Appends, fields, AppendsFront, WritesPacket, FailsToWrite};
 
 use crate::encode::{EncodeError, encode_into};
 use crate::packet::Packet;

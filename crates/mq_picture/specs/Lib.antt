@@ -1,8 +1,9 @@
-pub mod Summaries
-pub mod Records
-pub mod Rows
-pub mod Lanes
-pub mod Texts
+pub mod Fault
 pub mod Image
 pub mod Inside
-pub mod Fault
+pub mod Lanes
+pub mod Prelude
+pub mod Records
+pub mod Rows
+pub mod Summaries
+pub mod Texts

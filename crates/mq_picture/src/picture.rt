@@ -1,9 +1,7 @@
 //! Schedules as pictures.
 
 ghost use Rattle.std.specs.Prelude.{◌≡◌, IfErr, OnOk};
-ghost use Rattle.mq_packet.specs.Lines.{Prints};
-ghost use Rattle.mq_picture.specs.Fault.{OnMemory};
-ghost use Rattle.mq_picture.specs.Image.{IsPicture};
+ghost use Rattle.mq_picture.specs.Prelude.{Prints, OnMemory, IsPicture};
 
 use crate::record::record_of;
 use crate::rows::rows_of;
@@ -27,7 +25,7 @@ pub enum PictureFault {
 
 impl From<io::Error> for PictureFault {
     ghost use Rattle.std.specs.Prelude.{◌≡◌};
-    ghost use Rattle.mq_picture.specs.declared.picture.PictureFault.TheVariants.{Io};
+    ghost use Rattle.mq_picture.specs.Prelude.{Io};
 
     ghost from_gives = { λ error fault. fault ≡ Io error };
 
@@ -38,7 +36,7 @@ impl From<io::Error> for PictureFault {
 
 impl From<AllocError> for PictureFault {
     ghost use Rattle.std.specs.Prelude.{◌≡◌};
-    ghost use Rattle.mq_picture.specs.declared.picture.PictureFault.TheVariants.{Memory};
+    ghost use Rattle.mq_picture.specs.Prelude.{Memory};
 
     ghost from_gives = { λ _ fault. fault ≡ Memory };
 

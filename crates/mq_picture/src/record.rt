@@ -1,16 +1,7 @@
 //! The record of a replay.
 
 ghost use Rattle.std.specs.Prelude.{◌≡◌, ◌++◌, ◌∷◌, [], IfOk, OnOk, length};
-ghost use Rattle.std.specs.List.{flat_map};
-ghost use Rattle.std.specs.Int.NonZero.{non_zero_u16_get};
-ghost use Rattle.mq_world.specs.declared.answer.Answer.{Answer};
-ghost use Rattle.mq_world.specs.declared.side.Side.TheVariants.{Client};
-ghost use Rattle.mq_world.specs.World.{IsNew};
-ghost use Rattle.mq_schedule.specs.Schedule.{number_of};
-ghost use Rattle.mq_replay.specs.Replay.{StepDoes};
-ghost use Rattle.mq_picture.specs.declared.entry.Entry.TheVariants.{Arrived, Cleared, Noted};
-ghost use Rattle.mq_picture.specs.Inside.Recording.{Records};
-ghost use Rattle.mq_picture.specs.Records.{IsRecord, anew_entries, answer_entries, closed_entries, delivery_entries, dropped_entries, happening_entries, left_entries, opening_entries, published_entries, settling_entries, ticked_entries, unsent};
+ghost use Rattle.mq_picture.specs.Prelude.{flat_map, non_zero_u16_get, Answer, Client, IsNew, number_of, StepDoes, Arrived, Cleared, Noted, Records, IsRecord, anew_entries, answer_entries, closed_entries, delivery_entries, dropped_entries, happening_entries, left_entries, opening_entries, published_entries, settling_entries, ticked_entries, unsent};
 
 use crate::entry::{Entry, Note};
 use crate::summary::summary_of;

@@ -1,8 +1,7 @@
 //! The rows of a diagram.
 
 ghost use Rattle.std.specs.Prelude.{◌≡◌, ◌<◌, ◌≤◌, ◌+◌, ◌^◌, ◌++◌, ◌∷◌, [], List, drop, false, true, IfOk, IfSome, OnOk};
-ghost use Rattle.mq_picture.specs.Lanes.{Ends, FirstFits, IsChart, left_at, waiting};
-ghost use Rattle.mq_picture.specs.Rows.{Draws, reaches};
+ghost use Rattle.mq_picture.specs.Prelude.{Ends, FirstFits, IsChart, left_at, waiting, Draws, reaches};
 
 use crate::entry::{Entry, Note};
 use crate::summary::Summary;

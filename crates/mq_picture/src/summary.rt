@@ -1,7 +1,7 @@
 //! The parts of a packet that a diagram shows.
 
 ghost use Rattle.std.specs.Prelude.{◌≡◌};
-ghost use Rattle.mq_picture.specs.Summaries.{delivery_dup, delivery_id, kind_of, packet_dup, packet_id};
+ghost use Rattle.mq_picture.specs.Prelude.{delivery_dup, delivery_id, kind_of, packet_dup, packet_id};
 
 use mq_packet::{Packet, PacketId, Publish, encoded_len};
 

@@ -1,10 +1,7 @@
 //! The image of a diagram.
 
 ghost use Rattle.std.specs.Prelude.{◌≡◌, OnOk, codes};
-ghost use Rattle.std.specs.Io.KnownBytes.{Appends};
-ghost use Rattle.mq_packet.specs.Lines.{Prints};
-ghost use Rattle.mq_picture.specs.Image.{IsHead, IsImage, arrow_label, arrow_line, arrow_lines, arrow_place, body_lines, first_text, line_class, lines_text, note_lines, note_look, row_lines};
-ghost use Rattle.mq_picture.specs.Rows.{reaches};
+ghost use Rattle.mq_picture.specs.Prelude.{Appends, Prints, IsHead, IsImage, arrow_label, arrow_line, arrow_lines, arrow_place, body_lines, first_text, line_class, lines_text, note_lines, note_look, row_lines, reaches};
 
 use crate::entry::Note;
 use crate::rows::{Arrow, Fate, Row};

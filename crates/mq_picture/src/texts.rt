@@ -1,9 +1,7 @@
 //! The texts of a diagram.
 
 ghost use Rattle.std.specs.Prelude.{◌≡◌, Some, take};
-ghost use Rattle.std.specs.Fmt.{DisplaysOnOk};
-ghost use Rattle.mq_packet.specs.Lines.{escaped_byte};
-ghost use Rattle.mq_picture.specs.Texts.{EscapeLaw, accepted_text, arrow_text, delivered_text, dots, dup_text, fate_text, id_text, kind_text, note_text, short_payload, short_topic, summary_text, xml_byte, xml_text};
+ghost use Rattle.mq_picture.specs.Prelude.{DisplaysOnOk, escaped_byte, EscapeLaw, accepted_text, arrow_text, delivered_text, dots, dup_text, fate_text, id_text, kind_text, note_text, short_payload, short_topic, summary_text, xml_byte, xml_text};
 
 use crate::entry::Note;
 use crate::rows::{Arrow, Fate};

@@ -1,8 +1,7 @@
 //! The command `broker`.
 
 ghost use Rattle.std.specs.Prelude.{◌≡◌, IfOk};
-ghost use Rattle.mq_programs.specs.Kept.{IsBrokerStatus, IsEnded, IsReady, MayEnd};
-ghost use Rattle.mq_programs.specs.Options.{AreOptionsOf, milliseconds, start_status, when_full_of};
+ghost use Rattle.mq_programs.specs.Prelude.{IsBrokerStatus, IsEnded, IsReady, MayEnd, AreOptionsOf, milliseconds, start_status, when_full_of};
 
 use crate::kept::{Ready, recover};
 use mq_broker::{BrokerEnd, BrokerOptions, Log, LogLevel, OpenError};

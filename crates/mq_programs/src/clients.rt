@@ -1,10 +1,7 @@
 //! The client programs, over sockets and files of the system.
 
 ghost use Rattle.std.specs.Prelude.{◌≡◌, ◌≢◌, Some, IfOk, OnOk};
-ghost use Rattle.std.specs.Io.KnownBytes.{Appends};
-ghost use Rattle.mq_packet.specs.Lines.{Prints};
-ghost use Rattle.mq_cli.specs.Printed.{topic_line};
-ghost use Rattle.mq_programs.specs.Runs.{AreTextsOf, IsBadTopic, IsClientRun, IsCollectRun, IsCollected, IsLockedRun, IsPublishRun, IsPublished, IsSessionRun};
+ghost use Rattle.mq_programs.specs.Prelude.{Appends, Prints, topic_line, AreTextsOf, IsBadTopic, IsClientRun, IsCollectRun, IsCollected, IsLockedRun, IsPublishRun, IsPublished, IsSessionRun};
 
 use crate::reason::{
     Progress, Stopped, explain_in_use, explain_stop, explain_topic, explain_unlocked,

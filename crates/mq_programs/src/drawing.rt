@@ -1,12 +1,7 @@
 //! The command `replay --svg`.
 
 ghost use Rattle.std.specs.Prelude.{◌≡◌, Some, false, IfOk, IfSome};
-ghost use Rattle.mq_packet.specs.Lines.{Prints};
-ghost use Rattle.mq_cli.specs.Status.{IsReplayDone};
-ghost use Rattle.mq_picture.specs.Image.{IsPicture};
-ghost use Rattle.mq_schedule.specs.Schedule.{IsSchedule, lines_of};
-ghost use Rattle.mq_programs.specs.Drawing.{IsDrawRun, IsImageSaved, IsSaved};
-ghost use Rattle.mq_programs.specs.Inputs.{input_of};
+ghost use Rattle.mq_programs.specs.Prelude.{Prints, IsReplayDone, IsPicture, IsSchedule, lines_of, IsDrawRun, IsImageSaved, IsSaved, input_of};
 
 use mq_cli::{Draw, Failure, Job, Source, perform, perform_opened};
 use mq_client::{Disk, SaveError, SessionFile, SystemDisk};

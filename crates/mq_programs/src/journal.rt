@@ -1,7 +1,7 @@
 //! The command `journal`.
 
 ghost use Rattle.std.specs.Prelude.{◌≡◌, ◌⊎◌, ◌↔◌, true, IfOk};
-ghost use Rattle.mq_programs.specs.Journal.{IsBegun};
+ghost use Rattle.mq_programs.specs.Prelude.{IsBegun};
 
 use mq_cli::Failure;
 use mq_store::list_journal;

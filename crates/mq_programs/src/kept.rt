@@ -1,11 +1,7 @@
 //! A broker that is ready to run, with a journal or without one.
 
 ghost use Rattle.std.specs.Prelude.{◌≡◌, IfErr, IfOk};
-ghost use Rattle.mq_broker.specs.Configuration.{configuration};
-ghost use Rattle.mq_broker.specs.End.{IsPacketLimit};
-ghost use Rattle.mq_broker.specs.declared.open_error.OpenError.TheVariants.{PacketLimit};
-ghost use Rattle.mq_programs.specs.Kept.{MayEnd, keep_of};
-ghost use Rattle.mq_store.specs.Restoring.{IsFound};
+ghost use Rattle.mq_programs.specs.Prelude.{configuration, IsPacketLimit, PacketLimit, MayEnd, keep_of, IsFound};
 
 use mq_broker::{BrokerEnd, BrokerOptions, Log, OpenError, RecoveredBroker, run_broker};
 use mq_cli::{DataFolder, Durability};

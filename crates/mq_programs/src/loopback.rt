@@ -1,9 +1,7 @@
 //! The command `loopback`.
 
 ghost use Rattle.std.specs.Prelude.{IfOk};
-ghost use Rattle.mq_packet.specs.Lines.{Prints};
-ghost use Rattle.mq_loopback.specs.Program.{IsInputRun};
-ghost use Rattle.mq_programs.specs.Inputs.{input_of};
+ghost use Rattle.mq_programs.specs.Prelude.{Prints, IsInputRun, input_of};
 
 use mq_cli::{Failure, Source};
 use mq_loopback::{loopback, loopback_file};

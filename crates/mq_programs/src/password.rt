@@ -1,8 +1,7 @@
 //! The command `password`.
 
 ghost use Rattle.std.specs.Prelude.{◌≡◌, IfOk};
-ghost use Rattle.mq_packet.specs.Lines.{Prints};
-ghost use Rattle.mq_programs.specs.Password.{IsPasswordDone, IsPasswordRun, without_line_end};
+ghost use Rattle.mq_programs.specs.Prelude.{Prints, IsPasswordDone, IsPasswordRun, without_line_end};
 
 use mq_cli::Failure;
 use mq_status::{PasswordLineError, password_line};

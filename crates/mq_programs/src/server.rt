@@ -1,8 +1,7 @@
 //! The command `serve`.
 
 ghost use Rattle.std.specs.Prelude.{◌≡◌, ◌<◌, ◌≤◌, ◌⊎◌, Err, IfOk, IfSome};
-ghost use Rattle.mq_packet.specs.Lines.{Prints};
-ghost use Rattle.mq_programs.specs.Serving.{IsServeCommand};
+ghost use Rattle.mq_programs.specs.Prelude.{Prints, IsServeCommand};
 
 use mq_cli::{Failure, Serve};
 use mq_serve::{ServeEnd, ServeOptions, serve, serve_on};

@@ -1,5 +1,6 @@
-pub mod Retrying
-pub mod Printing
-pub mod Subscribing
 pub mod Giving
+pub mod Prelude
+pub mod Printing
+pub mod Retrying
 pub mod Setups
+pub mod Subscribing

@@ -1,7 +1,7 @@
 //! The waits between connections.
 
 ghost use Rattle.std.specs.Prelude.{◌≡◌};
-ghost use Rattle.mq_pubsub.specs.Retrying.{first_wait, wait_after};
+ghost use Rattle.mq_pubsub.specs.Prelude.{first_wait, wait_after};
 
 /// The first wait, in milliseconds.
 const FIRST_WAIT: u64 = 100;

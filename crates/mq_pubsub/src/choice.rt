@@ -28,7 +28,7 @@ pub struct Choice<'a> {
 }
 
 impl Choice<'_> {
-    ghost use Rattle.mq_pubsub.specs.Subscribing.{excludes, verdict_of};
+    ghost use Rattle.mq_pubsub.specs.Prelude.{excludes, verdict_of};
 
     // Whether a filter excludes a message.
     fn excludes(&self, message: &Message) -> bool

@@ -1,9 +1,9 @@
 //! Why a run stops early.
 
 ghost use Rattle.std.specs.Prelude.{◌≡◌, ◌↔◌, IsTrue};
+ghost use Rattle.mq_pubsub.specs.Prelude.{is_loss};
 ghost use Rattle.mq_end.specs.declared.reason.CloseReason.TheVariants as reasons;
 ghost use Rattle.mq_pubsub.specs.declared.error.RunError.TheVariants as errors;
-ghost use Rattle.mq_pubsub.specs.Retrying.{is_loss};
 
 use mq_end::{CloseReason, PublishRefusal};
 use mq_packet::RefusalCode;
@@ -75,7 +75,7 @@ impl RunError {
 
 impl From<AllocError> for RunError {
     ghost use Rattle.std.specs.Prelude.{◌≡◌};
-    ghost use Rattle.mq_pubsub.specs.declared.error.RunError.TheVariants.{Memory};
+    ghost use Rattle.mq_pubsub.specs.Prelude.{Memory};
 
     ghost from_gives = { λ _ error. error ≡ Memory };
 

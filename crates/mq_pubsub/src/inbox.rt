@@ -1,7 +1,7 @@
 //! How far a subscriber is, and which messages it prints.
 
 ghost use Rattle.std.specs.Prelude.{◌≡◌, ◌∷◌, [], List, OnOk, map};
-ghost use Rattle.mq_pubsub.specs.Printing.{acknowledged, identifier_at, last_acknowledged};
+ghost use Rattle.mq_pubsub.specs.Prelude.{acknowledged, identifier_at, last_acknowledged};
 
 use crate::choice::{Choice, Verdict};
 use crate::error::RunError;
@@ -74,8 +74,7 @@ fn check_codes<P: Printer>(printer: &mut P, codes: &[SubAckCode]) -> Result<(), 
 }
 
 impl Inbox {
-    ghost use Rattle.mq_pubsub.specs.Printing.{Shows, identifier_of};
-    ghost use Rattle.mq_pubsub.specs.Subscribing.{Prints, connects, counts, delivers, granted, prints, prints_at, state_after};
+    ghost use Rattle.mq_pubsub.specs.Prelude.{Shows, identifier_of, Prints, connects, counts, delivers, granted, prints, prints_at, state_after};
 
     // A message was printed.
     fn count(&mut self)

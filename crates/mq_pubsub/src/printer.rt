@@ -1,8 +1,8 @@
 //! Printers of messages.
 
 ghost use Rattle.std.specs.Prelude.{◌≡◌, ◌∷◌, [], ℕ, List, None, Option, OnOk};
+ghost use Rattle.mq_pubsub.specs.Prelude.{Shows};
 ghost use Rattle.mq_packet.specs.declared.message.Message.{Message as Delivered};
-ghost use Rattle.mq_pubsub.specs.Printing.{Shows};
 
 use crate::error::RunError;
 use mq_packet::{Message, PacketId};

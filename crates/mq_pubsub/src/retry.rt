@@ -1,7 +1,7 @@
 //! How a run continues after a loss.
 
 ghost use Rattle.std.specs.Prelude.{◌≡◌, ◌↔◌, IsTrue};
-ghost use Rattle.mq_pubsub.specs.Retrying.{IsOver, cut_wait};
+ghost use Rattle.mq_pubsub.specs.Prelude.{IsOver, cut_wait};
 
 /// How a run continues after a loss.
 #[derive(Clone, Copy, Debug, PartialEq, Eq)]

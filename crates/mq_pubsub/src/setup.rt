@@ -1,10 +1,8 @@
 //! Configurations from which clients are made.
 
 ghost use Rattle.std.specs.Prelude.{◌≡◌, None, IfErr, IfOk};
-ghost use Rattle.mq_decode.specs.Limits.{strict};
-ghost use Rattle.mq_end.specs.End.{blank_end};
+ghost use Rattle.mq_pubsub.specs.Prelude.{strict, blank_end, CanGoOn, GoesOn, config_of, greatest_length};
 ghost use Rattle.mq_flow.specs.declared.saved.Saved as value;
-ghost use Rattle.mq_pubsub.specs.Setups.{CanGoOn, GoesOn, config_of, greatest_length};
 
 use mq_decode::Limits;
 use mq_end::{ClientConfig, ClientEnd};

@@ -1,8 +1,8 @@
 //! Sources of messages to publish.
 
 ghost use Rattle.std.specs.Prelude.{◌≡◌, List, None, Option, true, IfOk};
+ghost use Rattle.mq_pubsub.specs.Prelude.{Gives, is_end, messages_of};
 ghost use Rattle.mq_packet.specs.declared.message.Message.{Message as Published};
-ghost use Rattle.mq_pubsub.specs.Giving.{Gives, is_end, messages_of};
 
 use crate::error::RunError;
 use mq_packet::Message;

@@ -1,3 +1,4 @@
-pub mod Seconds
-pub mod Options
 pub mod Grammar
+pub mod Options
+pub mod Prelude
+pub mod Seconds

@@ -1,8 +1,7 @@
 //! Addresses of brokers.
 
 ghost use Rattle.std.specs.Prelude.{◌≡◌, codes, option_map, string_bytes, IfOk};
-ghost use Rattle.clap.specs.Words.{first_value, found_of};
-ghost use Rattle.mq_pubsub_options.specs.Options.{IsLoginPart, first_of_three};
+ghost use Rattle.mq_pubsub_options.specs.Prelude.{first_value, found_of, IsLoginPart, first_of_three};
 
 use crate::fault::OptionFault;
 use crate::values::{owned, said};

@@ -1,8 +1,7 @@
 //! The options that both commands have.
 
 ghost use Rattle.std.specs.Prelude.{◌≡◌, codes, option_map, string_bytes, IfOk};
-ghost use Rattle.clap.specs.Words.{first_value, found_of, one_text};
-ghost use Rattle.mq_pubsub_options.specs.Options.{IsCommon, IsLongestWait, IsNumberOr, IsWillOf};
+ghost use Rattle.mq_pubsub_options.specs.Prelude.{first_value, found_of, one_text, IsCommon, IsLongestWait, IsNumberOr, IsWillOf};
 
 use crate::address::{Address, Defaults, address_of};
 use crate::fault::OptionFault;

@@ -1,8 +1,7 @@
 //! The definition of the command lines.
 
 ghost use Rattle.std.specs.Prelude.{◌≡◌, false, map, IfOk};
-ghost use Rattle.clap.specs.Words.{app_of, rule_of, with_rule};
-ghost use Rattle.mq_pubsub_options.specs.Grammar.{bare_app, common_rules, named_rule_of, number_rule, publish_app, rule_of_row, subscribe_app, text_rule, with_rules};
+ghost use Rattle.mq_pubsub_options.specs.Prelude.{app_of, rule_of, with_rule, bare_app, common_rules, named_rule_of, number_rule, publish_app, rule_of_row, subscribe_app, text_rule, with_rules};
 
 use clap::{Arg, ArgAction, Command, value_parser};
 use std::alloc::{AllocError, Global};

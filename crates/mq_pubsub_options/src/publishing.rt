@@ -1,9 +1,7 @@
 //! The arguments of `mqtt pub`.
 
 ghost use Rattle.std.specs.Prelude.{◌≡◌, codes, map, option_map, string_bytes, IfOk};
-ghost use Rattle.clap.specs.Words.{first_value, found_of, one_text};
-ghost use Rattle.clap.specs.declared.parser.matches.Found.{Found};
-ghost use Rattle.mq_pubsub_options.specs.Options.{ArePayloads, IsCommon, IsDelay, IsFlag, IsKind, IsNumberOr, IsPublish, IsTopicOf};
+ghost use Rattle.mq_pubsub_options.specs.Prelude.{first_value, found_of, one_text, Found, ArePayloads, IsCommon, IsDelay, IsFlag, IsKind, IsNumberOr, IsPublish, IsTopicOf};
 
 use crate::address::Defaults;
 use crate::common::{Common, common_of};

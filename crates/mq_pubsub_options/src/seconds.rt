@@ -1,7 +1,7 @@
 //! Durations in seconds.
 
 ghost use Rattle.std.specs.Prelude.{◌<◌, ◌≤◌, IfSome};
-ghost use Rattle.mq_pubsub_options.specs.Seconds.{IsDuration, IsFraction, IsWhole};
+ghost use Rattle.mq_pubsub_options.specs.Prelude.{IsDuration, IsFraction, IsWhole};
 
 /// The most seconds of a duration: ten years.
 const MOST_SECONDS: u64 = 315_360_000;

@@ -1,9 +1,7 @@
 //! The arguments of `mqtt sub`.
 
 ghost use Rattle.std.specs.Prelude.{◌≡◌, codes, option_map, string_bytes, IfOk};
-ghost use Rattle.clap.specs.Words.{first_value, found_of, one_text};
-ghost use Rattle.clap.specs.declared.parser.matches.Found.{Found};
-ghost use Rattle.mq_pubsub_options.specs.Options.{AreFilters, IsCommon, IsNumber, IsPrinted, IsRetained, IsStyle, IsSubscribe, filters_of, texts_of};
+ghost use Rattle.mq_pubsub_options.specs.Prelude.{first_value, found_of, one_text, Found, AreFilters, IsCommon, IsNumber, IsPrinted, IsRetained, IsStyle, IsSubscribe, filters_of, texts_of};
 
 use crate::address::Defaults;
 use crate::common::{Common, common_of};

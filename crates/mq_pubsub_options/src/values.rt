@@ -1,8 +1,7 @@
 //! Values of options.
 
 ghost use Rattle.std.specs.Prelude.{◌≡◌, ◌++◌, ◌∷◌, [], map, option_map, string_bytes, IfOk, OnOk};
-ghost use Rattle.clap.specs.Words.{first_value, found_of, one_text};
-ghost use Rattle.mq_pubsub_options.specs.Options.{IsFlag, IsQuality, IsTime, texts_of};
+ghost use Rattle.mq_pubsub_options.specs.Prelude.{first_value, found_of, one_text, IsFlag, IsQuality, IsTime, texts_of};
 
 use crate::fault::OptionFault;
 use crate::seconds::milliseconds_of;

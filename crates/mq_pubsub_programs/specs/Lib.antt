@@ -1,5 +1,6 @@
-pub mod Feeding
-pub mod Polling
-pub mod Status
 pub mod Delivering
+pub mod Feeding
 pub mod Following
+pub mod Polling
+pub mod Prelude
+pub mod Status

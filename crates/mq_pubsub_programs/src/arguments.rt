@@ -1,9 +1,7 @@
 //! The arguments of both commands.
 
 ghost use Rattle.std.specs.Prelude.{◌≡◌, IfOk};
-ghost use Rattle.clap.specs.declared.parser.matches.Found.{Found};
-ghost use Rattle.mq_pubsub_options.specs.Options.{IsPublish, IsSubscribe};
-ghost use Rattle.mq_pubsub_programs.specs.Status.{IsFaultStatus, IsHelp};
+ghost use Rattle.mq_pubsub_programs.specs.Prelude.{Found, IsPublish, IsSubscribe, IsFaultStatus, IsHelp};
 
 use crate::common::defaults_of;
 use crate::explain::{FAILED, NO_MEMORY};

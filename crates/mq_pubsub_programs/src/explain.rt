@@ -1,7 +1,7 @@
 //! Sentences for standard error.
 
 ghost use Rattle.std.specs.Prelude.{◌≡◌};
-ghost use Rattle.mq_pubsub_programs.specs.Status.{fault_status, status_of};
+ghost use Rattle.mq_pubsub_programs.specs.Prelude.{fault_status, status_of};
 
 use crate::fault::Fault;
 use crate::link::NoLink;

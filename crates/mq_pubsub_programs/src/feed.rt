@@ -1,7 +1,7 @@
 //! The source of the messages of `mqtt pub`.
 
 ghost use Rattle.std.specs.Prelude.{◌≡◌, IfOk};
-ghost use Rattle.mq_pubsub_programs.specs.Feeding.{EndsSupply, Supplies};
+ghost use Rattle.mq_pubsub_programs.specs.Prelude.{EndsSupply, Supplies};
 
 use crate::explain::Grouped;
 use crate::known::Known;
@@ -97,7 +97,7 @@ impl<R: Clock + Eprint> Feed<'_, R> {
 }
 
 impl<R: Clock + Eprint> Source for Feed<'_, R> {
-    ghost use Rattle.mq_pubsub_programs.specs.Feeding.{IsUsedUp, coming_of};
+    ghost use Rattle.mq_pubsub_programs.specs.Prelude.{IsUsedUp, coming_of};
 
     ghost coming = { λ feed. coming_of feed.topic.now feed.qos feed.retain feed.supply };
 

@@ -23,7 +23,7 @@ pub(crate) struct Known {
 }
 
 impl Known {
-    ghost use Rattle.mq_pubsub_programs.specs.Feeding.{EndsWith, coming_payloads, payloads_in, rounds_of};
+    ghost use Rattle.mq_pubsub_programs.specs.Prelude.{EndsWith, coming_payloads, payloads_in, rounds_of};
 
     /// Takes these payloads, in order, this many times.
     #[tactic(auto, using(crate::proofs::Rounds::all_rounds))]

@@ -1,7 +1,7 @@
 //! Connections to one broker.
 
 ghost use Rattle.std.specs.Prelude.{◌≡◌};
-ghost use Rattle.mq_pubsub_programs.specs.Status.{status_of};
+ghost use Rattle.mq_pubsub_programs.specs.Prelude.{status_of};
 
 use crate::common::patience_of;
 use crate::explain::{Place, Work, status_of, tell_end};

@@ -1,8 +1,7 @@
 //! Streams over sockets that wait for a source of messages too.
 
 ghost use Rattle.std.specs.Prelude.{None, IfSome};
-ghost use Rattle.mq_stream.specs.Stream.{Arrives};
-ghost use Rattle.mq_pubsub_programs.specs.Polling.{HasNoBytes};
+ghost use Rattle.mq_pubsub_programs.specs.Prelude.{Arrives, HasNoBytes};
 
 use crate::watch::Watch;
 use libc::net::POLLIN;

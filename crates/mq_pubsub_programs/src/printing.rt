@@ -1,9 +1,7 @@
 //! The lines of `mqtt sub`.
 
 ghost use Rattle.std.specs.Prelude.{OnErr, OnOk};
-ghost use Rattle.std.specs.Io.KnownBytes.{Appends};
-ghost use Rattle.mq_packet.specs.Writing.{AppendsFront};
-ghost use Rattle.mq_format.specs.Format.{line_text};
+ghost use Rattle.mq_pubsub_programs.specs.Prelude.{Appends, AppendsFront, line_text};
 
 use mq_format::{Envelope, Moment, Style};
 use mq_packet::{Message, PacketId, Request};

@@ -1,9 +1,8 @@
 //! The command `mqtt pub`.
 
 ghost use Rattle.std.specs.Prelude.{◌≡◌, ⊤, IfOk, OnOk, Result};
+ghost use Rattle.mq_pubsub_programs.specs.Prelude.{Delivers, IsSupply, IsStatus, status_of};
 ghost use Rattle.mq_pubsub.specs.declared.error.RunError.{RunError as Failure};
-ghost use Rattle.mq_pubsub_programs.specs.Delivering.{Delivers, IsSupply};
-ghost use Rattle.mq_pubsub_programs.specs.Status.{IsStatus, status_of};
 
 use crate::common::{identifier, setup_of};
 use crate::explain::{Work, tell_fault};

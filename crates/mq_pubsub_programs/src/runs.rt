@@ -1,8 +1,7 @@
 //! The runs of both commands, with a session file or without one.
 
 ghost use Rattle.std.specs.Prelude.{IfOk, OnOk};
-ghost use Rattle.mq_pubsub_programs.specs.Delivering.{Completes};
-ghost use Rattle.mq_pubsub_programs.specs.Following.{ComesToEnd};
+ghost use Rattle.mq_pubsub_programs.specs.Prelude.{Completes, ComesToEnd};
 
 use crate::fault::Fault;
 use crate::session::Session;

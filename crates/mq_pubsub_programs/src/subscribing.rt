@@ -1,9 +1,8 @@
 //! The command `mqtt sub`.
 
 ghost use Rattle.std.specs.Prelude.{◌≡◌, ⊤, [], map, option_map, unwrap_or, IfOk, OnOk, Result};
+ghost use Rattle.mq_pubsub_programs.specs.Prelude.{Follows, IsRun, request_of, IsStatus, status_of};
 ghost use Rattle.mq_pubsub.specs.declared.error.RunError.{RunError as Failure};
-ghost use Rattle.mq_pubsub_programs.specs.Following.{Follows, IsRun, request_of};
-ghost use Rattle.mq_pubsub_programs.specs.Status.{IsStatus, status_of};
 
 use crate::common::{identifier, setup_of};
 use crate::explain::{Work, tell_fault};

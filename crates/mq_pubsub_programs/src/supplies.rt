@@ -1,7 +1,7 @@
 //! The payloads of the arguments of `mqtt pub`.
 
 ghost use Rattle.std.specs.Prelude.{◌≡◌, ◌≢◌, ◌++◌, ◌∷◌, [], map, IfOk, OnOk};
-ghost use Rattle.mq_pubsub_programs.specs.Delivering.{AreWanted, IsSupply};
+ghost use Rattle.mq_pubsub_programs.specs.Prelude.{AreWanted, IsSupply};
 
 use crate::common::{read_file, said, unread};
 use crate::fault::Fault;

@@ -48,7 +48,7 @@ pub(crate) enum InputLine {
 }
 
 impl InputLines {
-    ghost use Rattle.mq_pubsub_programs.specs.Feeding.{EndsInput};
+    ghost use Rattle.mq_pubsub_programs.specs.Prelude.{EndsInput};
 
     /// The lines of standard input.
     pub(crate) fn new(alloc: Global) -> Result<InputLines, RunError> {

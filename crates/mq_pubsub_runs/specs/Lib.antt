@@ -1,4 +1,5 @@
-pub mod Stops
-pub mod Posting
-pub mod Watching
 pub mod Discarding
+pub mod Posting
+pub mod Prelude
+pub mod Stops
+pub mod Watching

@@ -1,12 +1,8 @@
 //! The messages that a publisher has taken from its source.
 
 ghost use Rattle.std.specs.Prelude.{◌≡◌, ◌++◌, [], List, None, Some, map, false, true, IfErr, IfOk, OnErr, OnOk, option_to_list};
-ghost use Rattle.std.specs.Io.KnownBytes.{Appends};
+ghost use Rattle.mq_pubsub_runs.specs.Prelude.{Appends, Publication, Went, Gives, Fills, IsLast, Publishes, Remembers, is_q0, IsConnection};
 ghost use Rattle.mq_packet.specs.declared.message.Message.{Message as Taken};
-ghost use Rattle.mq_client.specs.Course.{Publication, Went};
-ghost use Rattle.mq_pubsub.specs.Giving.{Gives};
-ghost use Rattle.mq_pubsub_runs.specs.Posting.{Fills, IsLast, Publishes, Remembers, is_q0};
-ghost use Rattle.mq_pubsub_runs.specs.Stops.{IsConnection};
 
 use crate::stop::{Stop, run_error};
 use mq_client::{Peer, SessionSaver};

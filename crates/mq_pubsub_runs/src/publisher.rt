@@ -1,10 +1,7 @@
 //! The run of `mqtt pub`.
 
 ghost use Rattle.std.specs.Prelude.{◌≡◌, [], None, true, IfErr, IfOk, OnErr, OnOk};
-ghost use Rattle.mq_end.specs.End.{is_up};
-ghost use Rattle.mq_client.specs.Course.{IsIdle, Leaves, Moment};
-ghost use Rattle.mq_pubsub_runs.specs.Posting.{AllPosted, IsLast, PartPosted, Posted, Progress, ProgressUntil, PublishEnds, Remembers, StartsWith};
-ghost use Rattle.mq_pubsub_runs.specs.Stops.{IsConnection};
+ghost use Rattle.mq_pubsub_runs.specs.Prelude.{is_up, IsIdle, Leaves, Moment, AllPosted, IsLast, PartPosted, Posted, Progress, ProgressUntil, PublishEnds, Remembers, StartsWith, IsConnection};
 
 use crate::network::Network;
 use crate::outbox::{Filled, Outbox, Tally};

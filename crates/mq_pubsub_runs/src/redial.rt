@@ -1,7 +1,7 @@
 //! The decision to make another connection.
 
 ghost use Rattle.std.specs.Prelude.{◌≡◌, true, is_some, Err, IfNone, IfSome, OnErr, OnOk};
-ghost use Rattle.mq_pubsub_runs.specs.Stops.{IsBroken, IsConnection, IsErr, IsOk};
+ghost use Rattle.mq_pubsub_runs.specs.Prelude.{IsBroken, IsConnection, IsErr, IsOk};
 
 use crate::network::Network;
 use crate::stop::Stop;

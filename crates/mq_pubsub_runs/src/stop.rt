@@ -1,7 +1,7 @@
 //! Why the work over a connection ends early.
 
 ghost use Rattle.std.specs.Prelude.{◌≡◌, true};
-ghost use Rattle.mq_pubsub_runs.specs.Stops.{IsConnection};
+ghost use Rattle.mq_pubsub_runs.specs.Prelude.{IsConnection};
 
 use mq_client::ClientError;
 use mq_pubsub::RunError;
@@ -59,7 +59,7 @@ pub(crate) fn run_error(error: ClientError) -> RunError {
 }
 
 impl From<ClientError> for Stop {
-    ghost use Rattle.mq_pubsub_runs.specs.Stops.{IsConnection};
+    ghost use Rattle.mq_pubsub_runs.specs.Prelude.{IsConnection};
 
     ghost from_gives = { λ _ stop. IsConnection stop };
 
@@ -69,7 +69,7 @@ impl From<ClientError> for Stop {
 }
 
 impl From<AllocError> for Stop {
-    ghost use Rattle.mq_pubsub_runs.specs.Stops.{IsConnection};
+    ghost use Rattle.mq_pubsub_runs.specs.Prelude.{IsConnection};
 
     ghost from_gives = { λ _ stop. IsConnection stop };
 

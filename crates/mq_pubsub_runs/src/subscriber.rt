@@ -1,10 +1,7 @@
 //! The run of `mqtt sub`.
 
 ghost use Rattle.std.specs.Prelude.{◌≡◌, ◌∷◌, [], true, false, IfErr, OnErr, OnOk};
-ghost use Rattle.mq_client.specs.Course.{Moment, Opening, Went, WentFirst};
-ghost use Rattle.mq_pubsub_runs.specs.Posting.{StartsWith};
-ghost use Rattle.mq_pubsub_runs.specs.Stops.{IsConnection};
-ghost use Rattle.mq_pubsub_runs.specs.Watching.{Stays, SubscribeEnds, Watched, WatchedPart, WatchedUntil, first_inbox, requests_of, subscriptions_of, unsubscriptions_of};
+ghost use Rattle.mq_pubsub_runs.specs.Prelude.{Moment, Opening, Went, WentFirst, StartsWith, IsConnection, Stays, SubscribeEnds, Watched, WatchedPart, WatchedUntil, first_inbox, requests_of, subscriptions_of, unsubscriptions_of};
 
 use crate::network::Network;
 use crate::redial::Redial;

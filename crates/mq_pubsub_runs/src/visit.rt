@@ -1,9 +1,7 @@
 //! Discarding the session that a server has.
 
 ghost use Rattle.std.specs.Prelude.{◌≡◌, None, true, IfOk, OnOk};
-ghost use Rattle.mq_end.specs.End.{blank_end, is_up};
-ghost use Rattle.mq_client.specs.Course.{Moment};
-ghost use Rattle.mq_pubsub_runs.specs.Discarding.{Discards, Hears};
+ghost use Rattle.mq_pubsub_runs.specs.Prelude.{blank_end, is_up, Moment, Discards, Hears};
 
 use crate::network::Network;
 use crate::stop::run_error;

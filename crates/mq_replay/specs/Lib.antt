@@ -1,3 +1,4 @@
+pub mod Fault
+pub mod Prelude
 pub mod Printing
 pub mod Replay
-pub mod Fault

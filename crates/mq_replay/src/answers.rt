@@ -1,9 +1,7 @@
 //! The lines of each step's result.
 
 ghost use Rattle.std.specs.Prelude.{◌++◌, OnOk};
-ghost use Rattle.std.specs.List.{flat_map};
-ghost use Rattle.std.specs.Io.KnownBytes.{Appends};
-ghost use Rattle.mq_replay.specs.Printing.{anew_line, answer_lines, bytes_line, closed_line, delivery_lines, dropped_line, happening_line, idle_line, left_line, lost_line, opening_lines, published_line, refused_line, restarted_lines, settling_lines, ticked_line};
+ghost use Rattle.mq_replay.specs.Prelude.{flat_map, Appends, anew_line, answer_lines, bytes_line, closed_line, delivery_lines, dropped_line, happening_line, idle_line, left_line, lost_line, opening_lines, published_line, refused_line, restarted_lines, settling_lines, ticked_line};
 
 use crate::words::{HandedText, IdWord};
 use mq_end::{CloseReason, Happening, PublishRefusal};

@@ -1,16 +1,7 @@
 //! Schedules that are run.
 
 ghost use Rattle.std.specs.Prelude.{◌≡◌, ◌<◌, IfErr, IfOk, IfSome, OnOk};
-ghost use Rattle.std.specs.Int.NonZero.{non_zero_u16_get};
-ghost use Rattle.std.specs.Io.KnownBytes.{Appends};
-ghost use Rattle.mq_packet.specs.Lines.{Prints};
-ghost use Rattle.mq_world.specs.declared.answer.Answer.{Answer};
-ghost use Rattle.mq_world.specs.Carries.{Wired};
-ghost use Rattle.mq_world.specs.World.{IsNew};
-ghost use Rattle.mq_schedule.specs.Schedule.{number_of};
-ghost use Rattle.mq_replay.specs.Printing.{answer_lines};
-ghost use Rattle.mq_replay.specs.Replay.{IsCutReplay, IsReplay, StepDoes};
-ghost use Rattle.mq_replay.specs.Fault.{OnMemory};
+ghost use Rattle.mq_replay.specs.Prelude.{non_zero_u16_get, Appends, Prints, Answer, Wired, IsNew, number_of, answer_lines, IsCutReplay, IsReplay, StepDoes, OnMemory};
 
 use crate::answers::write_answer;
 use crate::totals::write_totals;
@@ -36,7 +27,7 @@ pub enum ReplayFault {
 
 impl From<io::Error> for ReplayFault {
     ghost use Rattle.std.specs.Prelude.{◌≡◌};
-    ghost use Rattle.mq_replay.specs.declared.run.ReplayFault.TheVariants.{Io};
+    ghost use Rattle.mq_replay.specs.Prelude.{Io};
 
     ghost from_gives = { λ error fault. fault ≡ Io error };
 
@@ -47,7 +38,7 @@ impl From<io::Error> for ReplayFault {
 
 impl From<AllocError> for ReplayFault {
     ghost use Rattle.std.specs.Prelude.{◌≡◌};
-    ghost use Rattle.mq_replay.specs.declared.run.ReplayFault.TheVariants.{Memory};
+    ghost use Rattle.mq_replay.specs.Prelude.{Memory};
 
     ghost from_gives = { λ _ fault. fault ≡ Memory };
 

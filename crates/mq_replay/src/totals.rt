@@ -1,10 +1,7 @@
 //! The last lines of a replay.
 
 ghost use Rattle.std.specs.Prelude.{◌≡◌, OnOk};
-ghost use Rattle.std.specs.Io.KnownBytes.{Appends};
-ghost use Rattle.mq_world.specs.Listed.{accepted_in, handed_in};
-ghost use Rattle.mq_world.specs.OverBytes.{near};
-ghost use Rattle.mq_replay.specs.Replay.{held_count, last_lines, total_line};
+ghost use Rattle.mq_replay.specs.Prelude.{Appends, accepted_in, handed_in, near, held_count, last_lines, total_line};
 
 use mq_schedule::SideWord;
 use mq_topic::Qos;

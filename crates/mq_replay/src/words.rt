@@ -1,7 +1,7 @@
 //! Words of lines.
 
 ghost use Rattle.std.specs.Prelude.{Some};
-ghost use Rattle.mq_replay.specs.Printing.{handed_text, id_word};
+ghost use Rattle.mq_replay.specs.Prelude.{handed_text, id_word};
 
 use mq_packet::{Escaped, Message, PacketId};
 use mq_schedule::BytesWord;

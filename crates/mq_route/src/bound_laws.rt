@@ -1,8 +1,6 @@
 //! Laws on the bytes that a peer can make an end or a broker store and send.
 
-ghost use Rattle.mq_route.specs.Bounds.Ends.{BoundsLaws};
-ghost use Rattle.mq_route.specs.Bounds.Broker.{BrokerBounds};
-ghost use Rattle.mq_route.specs.Bounds.Sharp.{SharpLaws};
+ghost use Rattle.mq_route.specs.Prelude.{BoundsLaws, BrokerBounds, SharpLaws};
 
 use mq_decode::pending_is_short;
 use mq_end::{closing_laws, window_laws};

@@ -1,7 +1,7 @@
 //! Reasons for which a broker closes a connection.
 
 ghost use Rattle.std.specs.Prelude.{◌≡◌};
-ghost use Rattle.mq_route.specs.Codes.{hub_close_code};
+ghost use Rattle.mq_route.specs.Prelude.{hub_close_code};
 
 use mq_end::CloseReason;
 use thiserror::Error;

@@ -1,19 +1,6 @@
 //! Laws of every run of a broker.
 
-ghost use Rattle.mq_route.specs.Accepted.{AcceptLaws};
-ghost use Rattle.mq_route.specs.Begun.{BegunLaws};
-ghost use Rattle.mq_route.specs.Broad.{BroadLaws};
-ghost use Rattle.mq_route.specs.Clients.{ClientLaws};
-ghost use Rattle.mq_route.specs.Dropped.{WillLaws};
-ghost use Rattle.mq_route.specs.Examples.{Examples};
-ghost use Rattle.mq_route.specs.Expired.{ExpiryLaws};
-ghost use Rattle.mq_route.specs.Full.{FullLaws};
-ghost use Rattle.mq_route.specs.History.{HistoryLaws};
-ghost use Rattle.mq_route.specs.Laws.{OutputLaws, RoutingLaws, TakingLaws};
-ghost use Rattle.mq_route.specs.Names.{NameLaws};
-ghost use Rattle.mq_route.specs.Reading.{ReadLaws};
-ghost use Rattle.mq_route.specs.Silent.{SilentLaws};
-ghost use Rattle.mq_route.specs.Snapshot.{SnapshotLaws};
+ghost use Rattle.mq_route.specs.Prelude.{AcceptLaws, BegunLaws, BroadLaws, ClientLaws, WillLaws, Examples, ExpiryLaws, FullLaws, HistoryLaws, OutputLaws, RoutingLaws, TakingLaws, NameLaws, ReadLaws, SilentLaws, SnapshotLaws};
 
 use mq_end::sound_laws;
 use mq_flow::{identifier_laws, next_laws};

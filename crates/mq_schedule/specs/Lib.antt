@@ -1,4 +1,5 @@
-pub mod Schedule
-pub mod Parts
-pub mod Writing
 pub mod Laws
+pub mod Parts
+pub mod Prelude
+pub mod Schedule
+pub mod Writing

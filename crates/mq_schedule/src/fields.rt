@@ -1,13 +1,7 @@
 //! The values of single words.
 
 ghost use Rattle.std.specs.Prelude.{◌≡◌, ◌<◌, ◌^◌, ℕ, false, length, IfOk, IfSome, IsErr, MatchOption, Option};
-ghost use Rattle.std.specs.Int.NonZero.{non_zero_u16_get};
-ghost use Rattle.hex.specs.Hex.{IsBytes};
-ghost use Rattle.mq_topic.specs.Qos.{qos_number};
-ghost use Rattle.mq_topic.specs.Topic.{IsTopicName};
-ghost use Rattle.mq_packet.specs.Lines.{escaped};
-ghost use Rattle.mq_schedule.specs.Schedule.{IsAmount, IsNumber, IsWindow, bytes_word, number_of, side_word};
-ghost use Rattle.mq_schedule.specs.Parts.{Finds, IsCapacity, IsLimit, last_word};
+ghost use Rattle.mq_schedule.specs.Prelude.{non_zero_u16_get, IsBytes, qos_number, IsTopicName, escaped, IsAmount, IsNumber, IsWindow, bytes_word, number_of, side_word, Finds, IsCapacity, IsLimit, last_word};
 
 use crate::printed::{hex_bytes, unescaped};
 use bytes::Bytes;

@@ -1,10 +1,7 @@
 //! Bytes as they are printed in a line.
 
 ghost use Rattle.std.specs.Prelude.{◌≡◌, ◌≢◌, ◌<◌, ◌∷◌, ◌++◌, [], ℕ, List, false, IfOk, IfSome, IfNone};
-ghost use Rattle.std.specs.Fmt.{digit_glyph};
-ghost use Rattle.hex.specs.Hex.{IsBytes};
-ghost use Rattle.mq_packet.specs.Lines.{byte_digits, escaped, escaped_byte, hex_of};
-ghost use Rattle.mq_schedule.specs.Parts.{Finds, FindsBytes, is_plain};
+ghost use Rattle.mq_schedule.specs.Prelude.{digit_glyph, IsBytes, byte_digits, escaped, escaped_byte, hex_of, Finds, FindsBytes, is_plain};
 
 use std::alloc::{AllocError, Global};
 

@@ -1,9 +1,7 @@
 //! Schedules as they are read.
 
 ghost use Rattle.std.specs.Prelude.{◌≡◌, ◌∷◌, ◌++◌, [], ℕ, IfOk, OnOk, IsErrOf};
-ghost use Rattle.std.specs.Io.BufRead.{strip_last};
-ghost use Rattle.mq_schedule.specs.Schedule.{IsBadLine, IsSchedule, lines_of};
-ghost use Rattle.mq_schedule.specs.Parts.{AreSteps, StopsAt, parts};
+ghost use Rattle.mq_schedule.specs.Prelude.{strip_last, IsBadLine, IsSchedule, lines_of, AreSteps, StopsAt, parts};
 
 use crate::schedule::{Schedule, Step};
 use crate::steps::{step, world};
@@ -24,7 +22,7 @@ pub enum ScheduleFault {
 
 impl From<AllocError> for ScheduleFault {
     ghost use Rattle.std.specs.Prelude.{◌≡◌};
-    ghost use Rattle.mq_schedule.specs.declared.read.ScheduleFault.TheVariants.{Memory};
+    ghost use Rattle.mq_schedule.specs.Prelude.{Memory};
 
     ghost from_gives = { λ _ fault. fault ≡ Memory };
 

@@ -1,9 +1,7 @@
 //! The steps in single lines.
 
 ghost use Rattle.std.specs.Prelude.{◌≡◌, ◌∷◌, ℕ, false, IfOk, IfSome, MatchOption, Option, codes};
-ghost use Rattle.std.specs.Int.NonZero.{non_zero_u16_get};
-ghost use Rattle.mq_schedule.specs.Schedule.{IsWorldLine, Writes, number_of, publish_word, words_of};
-ghost use Rattle.mq_schedule.specs.Parts.{Finds};
+ghost use Rattle.mq_schedule.specs.Prelude.{non_zero_u16_get, IsWorldLine, Writes, number_of, publish_word, words_of, Finds};
 
 use crate::fields::{amount, capacity, limits, number, payload, qos, side, topic, window};
 use crate::schedule::Step;

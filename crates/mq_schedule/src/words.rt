@@ -1,7 +1,7 @@
 //! Texts that are taken apart from the left.
 
 ghost use Rattle.std.specs.Prelude.{◌≡◌, ◌≢◌, ◌<◌, ◌∷◌, [], length, IfSome, IfNone, IsTrue, ◌↔◌};
-ghost use Rattle.mq_schedule.specs.Parts.{last_word, parts, parts_left};
+ghost use Rattle.mq_schedule.specs.Prelude.{last_word, parts, parts_left};
 
 use std::marker::Model;
 

@@ -1,13 +1,8 @@
 //! Schedules as they are written.
 
 ghost use Rattle.std.specs.Prelude.{◌≡◌, ◌++◌, IfOk, OnOk, Some};
-ghost use Rattle.std.specs.Int.NonZero.{non_zero_u16_get};
-ghost use Rattle.std.specs.String.{string_bytes};
-ghost use Rattle.hex.specs.Hex.{IsBytes};
+ghost use Rattle.mq_schedule.specs.Prelude.{non_zero_u16_get, string_bytes, IsBytes, IsSchedule, IsWorldLine, bytes_word, lines_of, number_of, side_word, KeepsBounds, line_with, schedule_text, step_line, world_words};
 ghost use Rattle.mq_schedule.specs.declared.schedule.Step.TheVariants as steps;
-ghost use Rattle.mq_schedule.specs.Schedule.{IsSchedule, IsWorldLine, bytes_word, lines_of, number_of, side_word};
-ghost use Rattle.mq_schedule.specs.Parts.{KeepsBounds};
-ghost use Rattle.mq_schedule.specs.Writing.{line_with, schedule_text, step_line, world_words};
 
 use crate::schedule::{Schedule, Step};
 use mq_packet::{Escaped, Hex, Message};

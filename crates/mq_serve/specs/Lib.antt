@@ -1,9 +1,10 @@
-pub mod Ends
-pub mod Printed
-pub mod Wakers
-pub mod ReadOrder
 pub mod Accepting
+pub mod Calls
+pub mod Ends
 pub mod Pending
 pub mod Polled
-pub mod Calls
+pub mod Prelude
+pub mod Printed
+pub mod ReadOrder
+pub mod Wakers
 pub mod Working

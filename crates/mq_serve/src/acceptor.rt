@@ -1,8 +1,7 @@
 //! Acceptors of connections.
 
 ghost use Rattle.std.specs.Prelude.{◌≡◌, ◌⊎◌, false, pos, true};
-ghost use Rattle.std.specs.IoError.{os_error_kind};
-ghost use Rattle.mq_serve.specs.Accepting.{IsTaken, after_failure, is_dead};
+ghost use Rattle.mq_serve.specs.Prelude.{os_error_kind, IsTaken, after_failure, is_dead};
 
 use crate::polled_stream::{PolledStream, ReadTurn, WorkerPoll};
 use crate::wakers::ReadTurns;

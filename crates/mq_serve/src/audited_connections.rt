@@ -1,7 +1,7 @@
 //! A worker that keeps receipts serves connections.
 
 ghost use Rattle.std.specs.Prelude.{◌*◌, IfOk};
-ghost use Rattle.mq_book.specs.Workers.{Worked};
+ghost use Rattle.mq_serve.specs.Prelude.{Worked};
 
 use mq_book::{AuditedWorker, ConnectionSource, StepObserver, WorkEnd, work};
 use mq_route::Conn;

@@ -1,8 +1,7 @@
 //! The configuration of the programs' broker.
 
 ghost use Rattle.std.specs.Prelude.{◌≡◌, None};
-ghost use Rattle.mq_decode.specs.Limits.{strict};
-ghost use Rattle.mq_route.specs.declared.config.WhenFull.TheVariants.{ClosePublisher};
+ghost use Rattle.mq_serve.specs.Prelude.{strict, ClosePublisher};
 
 use mq_decode::Limits;
 use mq_route::{HubConfig, WhenFull};

@@ -1,7 +1,7 @@
 //! Calls of workers at their connections.
 
 ghost use Rattle.std.specs.Prelude.{ℕ, List, Option, None, ◌∷◌, []};
-ghost use Rattle.std.specs.Io.KnownBytes.{Appends};
+ghost use Rattle.mq_serve.specs.Prelude.{Appends};
 
 use mio::Waker;
 

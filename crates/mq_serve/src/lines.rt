@@ -1,10 +1,7 @@
 //! The lines that `serve` prints.
 
 ghost use Rattle.std.specs.Prelude.{◌≡◌, IfOk, OnOk};
-ghost use Rattle.std.specs.List.{flat_map};
-ghost use Rattle.std.specs.Io.KnownBytes.{Appends};
-ghost use Rattle.mq_serve.specs.Ends.{end_status};
-ghost use Rattle.mq_serve.specs.Printed.{end_line, end_lines, session_line};
+ghost use Rattle.mq_serve.specs.Prelude.{flat_map, Appends, end_status, end_line, end_lines, session_line};
 
 use crate::serve_end::ServeEnd;
 use mq_packet::Escaped;

@@ -1,11 +1,7 @@
 //! Output that a connection takes bit by bit.
 
 ghost use Rattle.std.specs.Prelude.{◌≡◌, ◌≤◌, Bool, true, length, take, IfNone, IfOk, MatchOption, None, OnErr, OnOk};
-ghost use Rattle.std.specs.Io.KnownBytes.{Appends, Keeps};
-ghost use Rattle.mq_packet.specs.Writing.{AppendsFront};
-ghost use Rattle.mq_stream.specs.Stream.{Arrives};
-ghost use Rattle.mq_serve.specs.Pending.{IsWhole, after_failed_write};
-ghost use Rattle.mq_serve.specs.declared.output.WriteNext.TheVariants.{Pause};
+ghost use Rattle.mq_serve.specs.Prelude.{Appends, Keeps, AppendsFront, Arrives, IsWhole, after_failed_write, Pause};
 
 use mq_stream::{Broken, ReadOutcome};
 use std::io;

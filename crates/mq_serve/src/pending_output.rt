@@ -1,9 +1,7 @@
 //! Output that a connection did not take yet.
 
 ghost use Rattle.std.specs.Prelude.{◌≡◌, ◌⊎◌, ◌↔◌, ◌++◌, [], IsTrue, OnErr, OnOk, length, nat_lt, true};
-ghost use Rattle.std.specs.Io.KnownBytes.{Keeps};
-ghost use Rattle.mq_packet.specs.Writing.{AppendsFront};
-ghost use Rattle.mq_serve.specs.Pending.{IsSent, Sends, WritesFront, bytes_of};
+ghost use Rattle.mq_serve.specs.Prelude.{Keeps, AppendsFront, IsSent, Sends, WritesFront, bytes_of};
 
 use crate::output::{Duplex, Patience, write_front, write_part};
 use bytes::BytesMut;

@@ -1,12 +1,7 @@
 //! Connections that a worker polls, for bytes, for room to write and for calls of other workers.
 
 ghost use Rattle.std.specs.Prelude.{◌≡◌, ◌⊎◌, ◌<◌, [], None, IfOk, OnErr, OnOk, false, true};
-ghost use Rattle.std.specs.Io.KnownBytes.{Keeps};
-ghost use Rattle.mq_packet.specs.Writing.{AppendsFront};
-ghost use Rattle.mq_stream.specs.Stream.{Arrives, IsUnread, outcome_of};
-ghost use Rattle.mq_serve.specs.Pending.{IsSent, Sends, WritesFront, bytes_of};
-ghost use Rattle.mq_serve.specs.Polled.{written_of};
-ghost use Rattle.mq_serve.specs.declared.output.WriteNext.TheVariants.{Pause};
+ghost use Rattle.mq_serve.specs.Prelude.{Keeps, AppendsFront, Arrives, IsUnread, outcome_of, IsSent, Sends, WritesFront, bytes_of, written_of, Pause};
 
 use crate::output::{Duplex, Patience, WriteNext, after_failed_write};
 use crate::pending_output::PendingOutput;
@@ -378,7 +373,7 @@ impl<R: Wait + Clock> Patience for RoomWait<'_, R> {
 }
 
 impl<R: Wait + Clock, D: Duplex> Stream for PolledStream<'_, R, D> {
-    ghost use Rattle.mq_serve.specs.Polled.{written_of};
+    ghost use Rattle.mq_serve.specs.Prelude.{written_of};
 
     ghost written = { λ s. written_of s };
 

@@ -1,11 +1,7 @@
 //! The program `serve`.
 
 ghost use Rattle.std.specs.Prelude.{◌≡◌, ◌<◌, ◌≤◌, IfOk, MatchResult, OnOk, Some};
-ghost use Rattle.std.specs.Io.KnownBytes.{Appends};
-ghost use Rattle.mq_packet.specs.Lines.{Prints};
-ghost use Rattle.mq_route.specs.Hub.{HubState};
-ghost use Rattle.mq_serve.specs.Ends.{IsReported, end_status};
-ghost use Rattle.mq_serve.specs.Printed.{AreSessions, IsEarly, IsServeRun, ServeEnds, end_line, end_lines};
+ghost use Rattle.mq_serve.specs.Prelude.{Appends, Prints, HubState, IsReported, end_status, AreSessions, IsEarly, IsServeRun, ServeEnds, end_line, end_lines};
 
 use crate::acceptor::Acceptor;
 use crate::lines::{write_end, write_served};

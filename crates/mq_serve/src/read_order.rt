@@ -1,10 +1,7 @@
 //! The order in which workers pass on the bytes that they read.
 
 ghost use Rattle.std.specs.Prelude.{◌≡◌, ◌+◌, ◌-◌, ◌^◌, IfOk, false, min, not, replicate};
-ghost use Rattle.std.specs.Io.KnownBytes.{Appends};
-ghost use Rattle.std.specs.List.{list_all};
-ghost use Rattle.mq_serve.specs.Calls.{numbers_from};
-ghost use Rattle.mq_serve.specs.ReadOrder.{after_empty_read, idle, is_later, is_read, reads_beside, seat_of, serving, waits, with_seat, with_waiting};
+ghost use Rattle.mq_serve.specs.Prelude.{Appends, list_all, numbers_from, after_empty_read, idle, is_later, is_read, reads_beside, seat_of, serving, waits, with_seat, with_waiting};
 
 use crate::caller::Caller;
 use std::alloc::{AllocError, Global};

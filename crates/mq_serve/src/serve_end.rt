@@ -1,7 +1,7 @@
 //! Reasons of a broker over sockets to end early.
 
 ghost use Rattle.std.specs.Prelude.{◌≡◌};
-ghost use Rattle.mq_serve.specs.Ends.{end_status};
+ghost use Rattle.mq_serve.specs.Prelude.{end_status};
 
 use mq_book::WorkEnd;
 use std::alloc::AllocError;
@@ -42,7 +42,7 @@ impl ServeEnd {
 
 impl From<AllocError> for ServeEnd {
     ghost use Rattle.std.specs.Prelude.{◌≡◌};
-    ghost use Rattle.mq_serve.specs.declared.serve_end.ServeEnd.TheVariants.{Memory};
+    ghost use Rattle.mq_serve.specs.Prelude.{Memory};
 
     ghost from_gives = { λ _ end. end ≡ Memory };
 
@@ -53,7 +53,7 @@ impl From<AllocError> for ServeEnd {
 
 impl From<WorkEnd> for ServeEnd {
     ghost use Rattle.std.specs.Prelude.{◌≡◌};
-    ghost use Rattle.mq_serve.specs.Ends.{end_of_work};
+    ghost use Rattle.mq_serve.specs.Prelude.{end_of_work};
 
     ghost from_gives = { λ why end. end ≡ end_of_work why };
 

@@ -1,13 +1,7 @@
 //! The server: a shared broker, and the workers that serve its connections.
 
 ghost use Rattle.std.specs.Prelude.{◌≡◌, ◌⊎◌, ◌+◌, ◌<◌, ◌≤◌, ℕ, [], All, Err, IfErr, IfOk, IfSome, OnOk, None, Some, length, map, vec_len};
-ghost use Rattle.std.specs.IoError.{os_error_kind};
-ghost use Rattle.std.specs.List.{sum_by};
-ghost use Rattle.mq_book.specs.Pages.{below};
-ghost use Rattle.mq_book.specs.declared.work_end.WorkEnd.{WorkEnd};
-ghost use Rattle.mq_serve.specs.Ends.{end_of_work, first_stop, retention_limit, stop_of};
-ghost use Rattle.mq_serve.specs.Working.{AreReceipts, HasWorked};
-ghost use Rattle.mq_serve.specs.declared.serve_end.ServeEnd.TheVariants.{Memory};
+ghost use Rattle.mq_serve.specs.Prelude.{os_error_kind, sum_by, below, WorkEnd, end_of_work, first_stop, retention_limit, stop_of, AreReceipts, HasWorked, Memory};
 
 use crate::acceptor::{Acceptor, WorkerAcceptor};
 use crate::audited_connections::serve_connections_audited;
@@ -215,7 +209,7 @@ impl<L: Ledger> Server<L> {
 }
 
 impl<L: Ledger> Workers for Server<L> {
-    ghost use Rattle.mq_serve.specs.Working.{AreReceipts, HasWorked};
+    ghost use Rattle.mq_serve.specs.Prelude.{AreReceipts, HasWorked};
 
     ghost does = { λ server part outcome. HasWorked part.share outcome.share outcome.end
         × AreReceipts server.retention part.share outcome.share outcome.receipts.items };

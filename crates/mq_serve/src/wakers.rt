@@ -1,9 +1,7 @@
 //! Wakers of workers that are waiting at their connections.
 
 ghost use Rattle.std.specs.Prelude.{◌≡◌, ◌<◌, ℕ, IfOk, length, slice_index_or, vec_len};
-ghost use Rattle.std.specs.Io.KnownBytes.{Appends};
-ghost use Rattle.mq_serve.specs.Calls.{numbers_from};
-ghost use Rattle.mq_serve.specs.Wakers.{after_act, after_acts, call_if, must_wake, serves, uncalled, vacant};
+ghost use Rattle.mq_serve.specs.Prelude.{Appends, numbers_from, after_act, after_acts, call_if, must_wake, serves, uncalled, vacant};
 
 use crate::caller::{Caller, WakerCaller};
 use crate::read_order::ReadOrder;

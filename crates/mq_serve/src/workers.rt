@@ -1,7 +1,7 @@
 //! Workers that run concurrently, each in a thread.
 
 ghost use Rattle.std.specs.Prelude.{◌≡◌, ⊤, IfOk, vec_len};
-ghost use Rattle.std.specs.List.{AllZip};
+ghost use Rattle.mq_serve.specs.Prelude.{AllZip};
 
 use std::alloc::AllocError;
 use std::sync::Wait;

@@ -1,10 +1,7 @@
 //! Reading the connections of a snapshot.
 
 ghost use Rattle.std.specs.Prelude.{◌≡◌, ◌++◌, ◌∷◌, [], IfOk};
-ghost use Rattle.mq_wire.specs.Number.{number};
-ghost use Rattle.mq_packet.specs.Encoding.{bit};
-ghost use Rattle.mq_route.specs.Hub.{HubConnection};
-ghost use Rattle.mq_route.specs.Snapshot.{saved_connection, saved_state, saved_will};
+ghost use Rattle.mq_snapshot.specs.Prelude.{number, bit, HubConnection, saved_connection, saved_state, saved_will};
 
 use crate::fault::SnapshotFault;
 use crate::fields::{read_count, read_eight, read_fields, read_flag, read_number, split};

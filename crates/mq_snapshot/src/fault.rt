@@ -22,7 +22,7 @@ pub enum SnapshotFault {
 
 impl From<AllocError> for SnapshotFault {
     ghost use Rattle.std.specs.Prelude.{◌≡◌};
-    ghost use Rattle.mq_snapshot.specs.declared.fault.SnapshotFault.TheVariants.{Memory};
+    ghost use Rattle.mq_snapshot.specs.Prelude.{Memory};
 
     ghost from_gives = { λ _ fault. fault ≡ Memory };
 
@@ -33,7 +33,7 @@ impl From<AllocError> for SnapshotFault {
 
 impl<T: Drop> From<AllocFailed<T>> for SnapshotFault {
     ghost use Rattle.std.specs.Prelude.{◌≡◌};
-    ghost use Rattle.mq_snapshot.specs.declared.fault.SnapshotFault.TheVariants.{Memory};
+    ghost use Rattle.mq_snapshot.specs.Prelude.{Memory};
 
     ghost from_gives = { λ _ fault. fault ≡ Memory };
 

@@ -1,13 +1,8 @@
 //! Reading the fields of a snapshot's parts. A reader returns a field and the bytes behind it.
 
 ghost use Rattle.std.specs.Prelude.{◌≡◌, ◌++◌, ◌∷◌, length, IfOk};
-ghost use Rattle.mq_wire.specs.Number.{number};
-ghost use Rattle.mq_wire.specs.Text.{counted};
-ghost use Rattle.mq_topic.specs.Qos.{qos_number};
-ghost use Rattle.mq_packet.specs.Encoding.{bit};
+ghost use Rattle.mq_snapshot.specs.Prelude.{number, counted, qos_number, bit, count, eight, saved_message};
 ghost use Rattle.mq_packet.specs.declared.message.Message.{Message as MessageParts};
-ghost use Rattle.mq_flow.specs.Saved.{count};
-ghost use Rattle.mq_route.specs.Snapshot.{eight, saved_message};
 
 use crate::fault::SnapshotFault;
 use mq_topic::{Qos, TopicFault, TopicName};

@@ -1,13 +1,9 @@
 //! Reading the parts of a snapshot. A reader returns a part and the bytes behind it.
 
 ghost use Rattle.std.specs.Prelude.{◌≡◌, ◌<◌, ◌++◌, ℕ, [], true, IfOk, IfSome};
+ghost use Rattle.mq_snapshot.specs.Prelude.{number, IsIdentifier, resumed, HubSession, listed, saved_end, saved_message, saved_row, saved_session, signature};
 ghost use Rattle.std.specs.FinSet as set;
-ghost use Rattle.mq_wire.specs.Number.{number};
-ghost use Rattle.mq_packet.specs.Identifier.{IsIdentifier};
 ghost use Rattle.mq_flow.specs.Saved.{signature as session_signature};
-ghost use Rattle.mq_end.specs.End.{resumed};
-ghost use Rattle.mq_route.specs.Hub.{HubSession};
-ghost use Rattle.mq_route.specs.Snapshot.{listed, saved_end, saved_message, saved_row, saved_session, signature};
 
 use crate::fault::SnapshotFault;
 use crate::fields::{fault_of, read_count, read_eight, read_fields, read_qos, read_text, split};

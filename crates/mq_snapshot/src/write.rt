@@ -1,15 +1,9 @@
 //! Writing the parts of a snapshot.
 
 ghost use Rattle.std.specs.Prelude.{◌≡◌, ◌^◌, ◌<◌, ◌++◌, ◌∷◌, ℕ, [], length, true, OnOk};
+ghost use Rattle.mq_snapshot.specs.Prelude.{number, counted, Row, bit, IsIdentifier, count, saved_payload, HubConnection, HubSession, eight, listed, saved_connection, saved_end, saved_message, saved_row, saved_session, saved_state, saved_will, signature};
 ghost use Rattle.std.specs.FinSet as set;
-ghost use Rattle.mq_wire.specs.Number.{number};
-ghost use Rattle.mq_wire.specs.Text.{counted};
-ghost use Rattle.mq_topic.specs.Rows.{Row};
-ghost use Rattle.mq_packet.specs.Encoding.{bit};
-ghost use Rattle.mq_packet.specs.Identifier.{IsIdentifier};
-ghost use Rattle.mq_flow.specs.Saved.{count, saved_payload, signature as session_signature};
-ghost use Rattle.mq_route.specs.Hub.{HubConnection, HubSession};
-ghost use Rattle.mq_route.specs.Snapshot.{eight, listed, saved_connection, saved_end, saved_message, saved_row, saved_session, saved_state, saved_will, signature};
+ghost use Rattle.mq_flow.specs.Saved.{signature as session_signature};
 
 use mq_end::ServerEnd;
 use mq_packet::{Message, Will};

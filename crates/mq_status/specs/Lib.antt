@@ -1,8 +1,9 @@
 pub mod Counting
 pub mod Html
-pub mod Log
 pub mod Http
+pub mod Log
+pub mod Page
 pub mod Passwords
+pub mod Prelude
 pub mod Prometheus
 pub mod Response
-pub mod Page

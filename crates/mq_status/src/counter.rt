@@ -1,7 +1,7 @@
 //! The counters of a broker.
 
 ghost use Rattle.std.specs.Prelude.{◌≡◌, ◌<◌};
-ghost use Rattle.mq_status.specs.Counting.{close_number, miss_reason, place};
+ghost use Rattle.mq_status.specs.Prelude.{close_number, miss_reason, place};
 
 use mq_end::CloseReason;
 use mq_packet::RefusalCode;

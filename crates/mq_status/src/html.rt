@@ -1,9 +1,7 @@
 //! Text in HTML.
 
 ghost use Rattle.std.specs.Prelude.{Some};
-ghost use Rattle.std.specs.Fmt.{DisplaysOnOk};
-ghost use Rattle.mq_packet.specs.Lines.{escaped_byte};
-ghost use Rattle.mq_status.specs.Html.{HtmlLaws, html_byte, html_escaped};
+ghost use Rattle.mq_status.specs.Prelude.{DisplaysOnOk, escaped_byte, HtmlLaws, html_byte, html_escaped};
 
 use std::fmt;
 

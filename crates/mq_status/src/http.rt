@@ -1,7 +1,7 @@
 //! Requests.
 
 ghost use Rattle.std.specs.Prelude.{◌≡◌};
-ghost use Rattle.mq_status.specs.Http.{Answers, path_status, reply_of};
+ghost use Rattle.mq_status.specs.Prelude.{Answers, path_status, reply_of};
 
 use httparse::Status as Parsed;
 use httparse::spans::{EMPTY_HEADER_SPAN, parse_request};

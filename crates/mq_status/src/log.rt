@@ -1,9 +1,7 @@
 //! Log lines.
 
 ghost use Rattle.std.specs.Prelude.{◌≡◌, ◌++◌, Some, OnOk, codes};
-ghost use Rattle.std.specs.Fmt.{DisplaysOnOk};
-ghost use Rattle.std.specs.Io.KnownBytes.{Appends};
-ghost use Rattle.mq_status.specs.Log.{LogLaws, close_text, close_words, line_text, refusal_text, refusal_words};
+ghost use Rattle.mq_status.specs.Prelude.{DisplaysOnOk, Appends, LogLaws, close_text, close_words, line_text, refusal_text, refusal_words};
 
 use mq_end::CloseReason;
 use mq_packet::{Escaped, RefusalCode};

@@ -1,9 +1,8 @@
 //! Counting.
 
 ghost use Rattle.std.specs.Prelude.{◌≡◌, ◌+◌, ◌<◌, length};
-ghost use Rattle.mq_status.specs.Counting.{Grows, act_adds, acts_add, place, refusal_adds, share, size, value};
+ghost use Rattle.mq_status.specs.Counting.{place, size};
 ghost use Rattle.mq_status.specs.declared.counter.Counter as declared;
-ghost use Rattle.mq_status.specs.declared.counter.Counter.TheVariants.{BytesRead, BytesWritten, Closed, RoundMicroseconds, Rounds};
 
 use crate::counter::{COUNTERS, Counter, miss_reason};
 use mq_end::CloseReason;
@@ -44,6 +43,8 @@ impl Model for Metrics {
 }
 
 impl Metrics {
+    ghost use Rattle.mq_status.specs.Prelude.{Grows, act_adds, acts_add, refusal_adds, share, value, BytesRead, BytesWritten, Closed, RoundMicroseconds, Rounds};
+
     /// Returns metrics that are all 0.
     pub fn new() -> Metrics
         ensures { (counter : declared.Counter) → value result counter ≡ 0 }

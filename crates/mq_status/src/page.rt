@@ -1,9 +1,8 @@
 //! The status page.
 
 ghost use Rattle.std.specs.Prelude.{◌≡◌, ◌++◌, ◌<◌, codes, OnOk};
-ghost use Rattle.std.specs.List.{flat_map};
-ghost use Rattle.std.specs.Io.KnownBytes.{Appends};
-ghost use Rattle.mq_status.specs.Page.{by_qos_row, closed_text, connections_text, gauges_text, item_text, messages_text, missed_text, page_text, refused_text, row_text, sessions_text, state_word, title_text, totals_text};
+ghost use Rattle.mq_status.specs.Prelude.{flat_map, Appends, by_qos_row, connections_text, item_text, page_text, row_text, state_word, title_text, totals_text};
+ghost use Rattle.mq_status.specs.Page.{closed_text, gauges_text, messages_text, missed_text, refused_text, sessions_text};
 
 use crate::counter::COUNTERS;
 use crate::html::HtmlEscaped;

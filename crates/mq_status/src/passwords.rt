@@ -1,13 +1,7 @@
 //! The file of passwords.
 
 ghost use Rattle.std.specs.Prelude.{◌≡◌, ◌++◌, ◌↔◌, true, false, map, Ok, IfOk, IfErr, IsErrOf};
-ghost use Rattle.std.specs.String.{string_bytes};
-ghost use Rattle.std.specs.List.{list_all};
-ghost use Rattle.std.specs.Result.{result_ok};
-ghost use Rattle.std.specs.Str.Lines.{lines};
-ghost use Rattle.hex.specs.Hex.{decode_sized};
-ghost use Rattle.sha2.specs.Sha256.{sha256};
-ghost use Rattle.mq_status.specs.Passwords.{Adds, AreTablesOf, Gives, PasswordLaws, ReadsTables, Refuses, RefusesLine, RefusesLines, accepts, entry_of, field_in, file_gives, fits, hash_in, is_field, is_field_byte, is_name, is_skipped, line_gives, lines_give, name_in, password_line, plain_of, stored_in};
+ghost use Rattle.mq_status.specs.Prelude.{string_bytes, list_all, result_ok, lines, decode_sized, sha256, Adds, AreTablesOf, Gives, PasswordLaws, ReadsTables, Refuses, RefusesLine, RefusesLines, accepts, entry_of, field_in, file_gives, fits, hash_in, is_field, is_field_byte, is_name, is_skipped, line_gives, lines_give, name_in, password_line, plain_of, stored_in};
 
 use bytes::Bytes;
 use hex::FromHex;

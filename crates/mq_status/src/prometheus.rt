@@ -1,9 +1,8 @@
 //! Metrics as Prometheus text.
 
 ghost use Rattle.std.specs.Prelude.{◌++◌, ◌<◌, codes, OnOk};
-ghost use Rattle.std.specs.Io.KnownBytes.{Appends};
-ghost use Rattle.std.specs.List.{flat_map};
-ghost use Rattle.mq_status.specs.Prometheus.{by_qos_text, closed_text, counters_text, gauges_text, head_text, memory_text, messages_text, missed_text, prometheus_text, refused_text, rounds_text, sample_text, seconds_text, sessions_text, single_text, traffic_text, wills_text};
+ghost use Rattle.mq_status.specs.Prelude.{Appends, flat_map, by_qos_text, counters_text, head_text, memory_text, prometheus_text, rounds_text, sample_text, seconds_text, single_text, traffic_text, wills_text};
+ghost use Rattle.mq_status.specs.Prometheus.{closed_text, gauges_text, messages_text, missed_text, refused_text, sessions_text};
 
 use crate::counter::COUNTERS;
 use crate::metrics::{Gauges, Metrics};

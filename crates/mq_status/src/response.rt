@@ -1,8 +1,7 @@
 //! Responses.
 
 ghost use Rattle.std.specs.Prelude.{◌≡◌, IfOk, OnOk};
-ghost use Rattle.std.specs.Io.KnownBytes.{Appends};
-ghost use Rattle.mq_status.specs.Response.{body_text, content_type, head_lines, response_text, status_lines};
+ghost use Rattle.mq_status.specs.Prelude.{Appends, body_text, content_type, head_lines, response_text, status_lines};
 
 use crate::http::{Reply, Resource, Status};
 use crate::metrics::Metrics;

@@ -1,5 +1,6 @@
 pub mod Configuration
 pub mod Continued
 pub mod Faults
+pub mod Prelude
 pub mod Restoring
 pub mod SnapshotFile

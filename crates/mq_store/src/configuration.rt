@@ -1,8 +1,7 @@
 //! The configuration of a broker as bytes.
 
 ghost use Rattle.std.specs.Prelude.{◌≡◌, ◌++◌, OnOk, IfOk};
-ghost use Rattle.mq_route.specs.Snapshot.{eight};
-ghost use Rattle.mq_store.specs.Configuration.{bool_number, bound_bytes, config_bytes, hashed_bytes, hashed_table, hashed_users_bytes, limit_bytes, option_bytes, packet_bytes, text_bytes, user_bytes, user_table, users_bytes, when_full_number};
+ghost use Rattle.mq_store.specs.Prelude.{eight, bool_number, bound_bytes, config_bytes, hashed_bytes, hashed_table, hashed_users_bytes, limit_bytes, option_bytes, packet_bytes, text_bytes, user_bytes, user_table, users_bytes, when_full_number};
 
 use mq_decode::Limits;
 use mq_end::BoxedList;

@@ -1,11 +1,7 @@
 //! The folder of a broker, and how it continues in another journal.
 
 ghost use Rattle.std.specs.Prelude.{◌≡◌, ◌+◌, ◌<◌, ◌↔◌, [], length, string_bytes, IfOk, IsTrue, OnErr, OnOk};
-ghost use Rattle.mq_durable.specs.Recorded.{events_of};
-ghost use Rattle.mq_file.specs.History.{MayLeave, seen_after};
-ghost use Rattle.mq_log.specs.Blocks.{at_rest};
-ghost use Rattle.mq_log.specs.Journal.{IsSettled};
-ghost use Rattle.mq_store.specs.Continued.{HasNext, IsContinued, IsFull, MayContinue, MayHaveNext, journal_path, next_path, next_snapshot, snapshot_path};
+ghost use Rattle.mq_store.specs.Prelude.{events_of, MayLeave, seen_after, at_rest, IsSettled, HasNext, IsContinued, IsFull, MayContinue, MayHaveNext, journal_path, next_path, next_snapshot, snapshot_path};
 
 use crate::fault::StoreError;
 use crate::snapshot_file::snapshot_bytes;

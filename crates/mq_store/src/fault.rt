@@ -1,7 +1,7 @@
 //! Why a store can't be used.
 
 ghost use Rattle.std.specs.Prelude.{◌≡◌};
-ghost use Rattle.mq_store.specs.Faults.{of_configuration};
+ghost use Rattle.mq_store.specs.Prelude.{of_configuration};
 
 use mq_durable::{CommitError, RecoverError};
 use mq_file::FolderError;
@@ -68,7 +68,7 @@ pub enum StoreError {
 
 impl From<AllocError> for StoreError {
     ghost use Rattle.std.specs.Prelude.{◌≡◌};
-    ghost use Rattle.mq_store.specs.declared.fault.StoreError.TheVariants.{Memory};
+    ghost use Rattle.mq_store.specs.Prelude.{Memory};
 
     ghost from_gives = { λ _ error. error ≡ Memory };
 
@@ -79,7 +79,7 @@ impl From<AllocError> for StoreError {
 
 impl From<FolderError> for StoreError {
     ghost use Rattle.std.specs.Prelude.{◌≡◌};
-    ghost use Rattle.mq_store.specs.Faults.{of_folder};
+    ghost use Rattle.mq_store.specs.Prelude.{of_folder};
 
     ghost from_gives = { λ why error. error ≡ of_folder why };
 
@@ -97,7 +97,7 @@ impl From<FolderError> for StoreError {
 
 impl From<RecoverError> for StoreError {
     ghost use Rattle.std.specs.Prelude.{◌≡◌};
-    ghost use Rattle.mq_store.specs.Faults.{of_recovery};
+    ghost use Rattle.mq_store.specs.Prelude.{of_recovery};
 
     ghost from_gives = { λ why error. error ≡ of_recovery why };
 
@@ -113,7 +113,7 @@ impl From<RecoverError> for StoreError {
 
 impl From<DiskError> for StoreError {
     ghost use Rattle.std.specs.Prelude.{◌≡◌};
-    ghost use Rattle.mq_store.specs.Faults.{of_disk};
+    ghost use Rattle.mq_store.specs.Prelude.{of_disk};
 
     ghost from_gives = { λ why error. error ≡ of_disk why };
 
@@ -127,7 +127,7 @@ impl From<DiskError> for StoreError {
 
 impl From<CommitError> for StoreError {
     ghost use Rattle.std.specs.Prelude.{◌≡◌};
-    ghost use Rattle.mq_store.specs.Faults.{of_commit};
+    ghost use Rattle.mq_store.specs.Prelude.{of_commit};
 
     ghost from_gives = { λ why error. error ≡ of_commit why };
 
@@ -143,7 +143,7 @@ impl From<CommitError> for StoreError {
 // A part of the file `snapshot` is not readable.
 impl From<SnapshotFault> for StoreError {
     ghost use Rattle.std.specs.Prelude.{◌≡◌};
-    ghost use Rattle.mq_store.specs.Faults.{of_part};
+    ghost use Rattle.mq_store.specs.Prelude.{of_part};
 
     ghost from_gives = { λ fault error. error ≡ of_part fault };
 

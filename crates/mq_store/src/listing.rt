@@ -1,10 +1,7 @@
 //! Printing a journal.
 
 ghost use Rattle.std.specs.Prelude.{◌≡◌, ◌≢◌, ◌↔◌, IfOk, IsTrue};
-ghost use Rattle.mq_log.specs.Blocks.{gate, rest, tail_of};
-ghost use Rattle.mq_durable.specs.Recorded.{AreReadable, events_in};
-ghost use Rattle.mq_record.specs.Reading.{IsEntry};
-ghost use Rattle.mq_store.specs.Restoring.{MayBeLeft, may_end};
+ghost use Rattle.mq_store.specs.Prelude.{gate, rest, tail_of, AreReadable, events_in, IsEntry, MayBeLeft, may_end};
 
 use mq_log::{Tail, read_journal};
 use mq_record::{RecordFault, decode_events, record_laws};

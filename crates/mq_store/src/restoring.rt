@@ -1,11 +1,7 @@
 //! Restoring a broker from a snapshot and the journal that follows it.
 
 ghost use Rattle.std.specs.Prelude.{◌≡◌, ◌<◌, [], length, IfOk, IfSome, OnOk};
-ghost use Rattle.mq_durable.specs.Recorded.{events_in, events_in_all, events_of};
-ghost use Rattle.mq_route.specs.Hub.{HubState};
-ghost use Rattle.mq_route.specs.Snapshot.{IsStorable, restored, snapshot};
-ghost use Rattle.mq_store.specs.Restoring.{EndsAfter, IsEnded, IsRestored};
-ghost use Rattle.mq_store.specs.SnapshotFile.{parts_of, with_digest};
+ghost use Rattle.mq_store.specs.Prelude.{events_in, events_in_all, events_of, HubState, IsStorable, restored, snapshot, EndsAfter, IsEnded, IsRestored, parts_of, with_digest};
 
 use crate::fault::{StoreError, not_allowed};
 use crate::snapshot_file::Parts;

@@ -1,7 +1,7 @@
 //! Reading a configuration.
 
 ghost use Rattle.std.specs.Prelude.{◌≡◌, ◌<◌, ◌++◌, length, IfOk, IfSome, IsTrue};
-ghost use Rattle.mq_store.specs.Configuration.{config_bytes, text_bytes};
+ghost use Rattle.mq_store.specs.Prelude.{config_bytes, text_bytes};
 
 use crate::configuration::config_bytes;
 use bytes::Bytes;

@@ -1,9 +1,7 @@
 //! The file `snapshot`.
 
 ghost use Rattle.std.specs.Prelude.{◌≡◌, ◌++◌, IfOk};
-ghost use Rattle.mq_route.specs.Snapshot.{IsKeptWhole, snapshot};
-ghost use Rattle.mq_store.specs.Configuration.{config_bytes, text_bytes};
-ghost use Rattle.mq_store.specs.SnapshotFile.{file_signature, parts_of, saved_file, with_digest};
+ghost use Rattle.mq_store.specs.Prelude.{IsKeptWhole, snapshot, config_bytes, text_bytes, file_signature, parts_of, saved_file, with_digest};
 
 use crate::configuration::put_text;
 use crate::fault::StoreError;

@@ -1,9 +1,8 @@
 //! Opening a store.
 
 ghost use Rattle.std.specs.Prelude.{◌≡◌, ◌<◌, [], IfOk, IfSome};
+ghost use Rattle.mq_store.specs.Prelude.{config_bytes, IsFound, IsOpened};
 ghost use Rattle.mq_route.specs.declared.config.HubConfig.{HubConfig as Config};
-ghost use Rattle.mq_store.specs.Configuration.{config_bytes};
-ghost use Rattle.mq_store.specs.Restoring.{IsFound, IsOpened};
 
 use crate::configuration::config_bytes;
 use crate::data_folder::{DataFolder, StoreOptions, journal_name, snapshot_name};

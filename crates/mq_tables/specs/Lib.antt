@@ -6,6 +6,7 @@ pub mod Expiry
 pub mod Late
 pub mod Numbers
 pub mod Output
+pub mod Prelude
 pub mod Publishing
 pub mod Retained
 pub mod Rules

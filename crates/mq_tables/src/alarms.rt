@@ -1,9 +1,8 @@
 //! The times after which connections may be late (3.1.2.10).
 
 ghost use Rattle.std.specs.Prelude.{◌≡◌, ◌+◌, ◌<◌, ◌≤◌, ℕ, [], length, false, IfOk, IfNone, IfSome, OnErr, OnOk, OnSome};
+ghost use Rattle.mq_tables.specs.Prelude.{same_conn, IsQuiet, RingsWith, is_named};
 ghost use Rattle.mq_route.specs.declared.conn.Conn.{Conn as ConnSeen};
-ghost use Rattle.mq_route.specs.Routed.{same_conn};
-ghost use Rattle.mq_tables.specs.Alarms.{IsQuiet, RingsWith, is_named};
 
 use mq_route::Conn;
 use std::alloc::{AllocError, Global};

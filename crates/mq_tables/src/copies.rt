@@ -1,8 +1,7 @@
 //! Copies of messages for subscribers (3.3.1.3, 3.3.5, 3.8.4).
 
 ghost use Rattle.std.specs.Prelude.{◌≡◌, Some, IfOk};
-ghost use Rattle.std.specs.Option.{option_to_list};
-ghost use Rattle.mq_route.specs.Copies.{lesser, copy, copy_by, is_hidden_name, will_message};
+ghost use Rattle.mq_tables.specs.Prelude.{option_to_list, lesser, copy, copy_by, is_hidden_name, will_message};
 
 use mq_packet::{Message, Will};
 use mq_topic::{Qos, TopicName};

@@ -1,8 +1,8 @@
 //! Sessions of clients that are absent for too long (3.1.2.4).
 
 ghost use Rattle.std.specs.Prelude.{◌≡◌, ◌≤◌, ℕ, IfOk};
-ghost use Rattle.mq_route.specs.Step.{has_passed};
-ghost use Rattle.mq_tables.specs.Expiry.{AreKept, gone_keys, is_gone};
+ghost use Rattle.mq_tables.specs.Prelude.{has_passed, gone_keys, is_gone};
+ghost use Rattle.mq_tables.specs.Expiry.{AreKept};
 
 use crate::connections::table::Connections;
 use crate::sessions::session::{BoxedSession, BrokerSession};

@@ -1,12 +1,9 @@
 //! The table of retained messages (3.3.1.3, 3.8.4).
 
 ghost use Rattle.std.specs.Prelude.{◌≡◌, ◌+◌, ◌≤◌, ◌<◌, ◌++◌, ◌∷◌, [], length, not, filter, if◌then◌else◌, IfOk, IfSome, OnOk, IsOk};
-ghost use Rattle.std.specs.List.{list_any};
-ghost use Rattle.indexmap.specs.IndexMap.{spare, values};
-ghost use Rattle.mq_route.specs.Copies.{is_of, kept, replaced, retained_for};
-ghost use Rattle.mq_route.specs.Snapshot.{listed, saved_message};
-ghost use Rattle.mq_packet.specs.declared.message.Message.{Message};
-ghost use Rattle.mq_tables.specs.Retained.{AreKept, IsKeptOf};
+ghost use Rattle.mq_tables.specs.Prelude.{list_any, values, is_of, kept, replaced, retained_for, listed, saved_message, Message, IsKeptOf};
+ghost use Rattle.indexmap.specs.IndexMap.{spare};
+ghost use Rattle.mq_tables.specs.Retained.{AreKept};
 
 use crate::copies::{copy, is_hidden_name};
 use indexmap::IndexMap;

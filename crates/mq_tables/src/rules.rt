@@ -1,8 +1,7 @@
 //! The configuration that decides which copies are placed.
 
 ghost use Rattle.std.specs.Prelude.{◌≡◌, ◌||◌, is_some};
-ghost use Rattle.mq_route.specs.Work.{drops_copies};
-ghost use Rattle.mq_tables.specs.Rules.{rules_of};
+ghost use Rattle.mq_tables.specs.Prelude.{drops_copies, rules_of};
 
 use mq_route::{HubConfig, WhenFull};
 

@@ -1,9 +1,7 @@
 //! The room of a session.
 
 ghost use Rattle.std.specs.Prelude.{◌≡◌, ◌==◌, ◌||◌, ◌+◌, length, not, true};
-ghost use Rattle.mq_end.specs.Both.{has_identifier};
-ghost use Rattle.mq_flow.specs.Stored.{message_bytes, stored_bytes};
-ghost use Rattle.mq_tables.specs.Rules.{fits_left, left_of, skips, space_after, space_of};
+ghost use Rattle.mq_tables.specs.Prelude.{has_identifier, message_bytes, stored_bytes, fits_left, left_of, skips, space_after, space_of};
 
 use crate::rules::CopyRules;
 use crate::sessions::session::free_of;

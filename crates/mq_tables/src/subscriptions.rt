@@ -1,8 +1,7 @@
 //! Sets the subscriptions of a client one after another (3.8.4).
 
 ghost use Rattle.std.specs.Prelude.{◌≡◌, OnOk, OnErr};
-ghost use Rattle.mq_topic.specs.Rows.{with_row};
-ghost use Rattle.mq_tables.specs.Subscriptions.{row_back, rows_back, with_rows, AreThere, IsThere};
+ghost use Rattle.mq_tables.specs.Prelude.{with_row, row_back, rows_back, with_rows, AreThere, IsThere};
 
 use mq_packet::Request;
 use mq_topic::{ClientKey, FilterStore, Qos, TopicFilter, store_laws};

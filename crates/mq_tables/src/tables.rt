@@ -4,13 +4,7 @@ pub(crate) mod connect;
 pub(crate) mod load;
 
 ghost use Rattle.std.specs.Prelude.{◌≡◌, ◌≤◌, ℕ, List, Some, None, [], ◌∷◌, ◌++◌, true, false, OnOk, OnErr, IfOk, IsSome, IfSome, is_some, ◌<◌, ◌+◌, not};
-ghost use Rattle.mq_topic.specs.Rows.{without_client};
-ghost use Rattle.mq_route.specs.Hub.{held_on, is_open, key_of, key_on, knows, stage_of, waiting_on, with_connection, without_connection, is_clean, up_on};
-ghost use Rattle.mq_route.specs.Welcome.{ends_on, ends_with};
-ghost use Rattle.mq_tables.specs.Connections.{IsDecoding, touched_at, holds, left_with};
-ghost use Rattle.mq_tables.specs.Output.{CollectsAt};
-ghost use Rattle.mq_tables.specs.Connecting.{parted};
-ghost use Rattle.mq_tables.specs.Sessions.{marked_at, sessions_of, session_at, with_server, without_key};
+ghost use Rattle.mq_tables.specs.Prelude.{without_client, held_on, is_open, key_of, key_on, knows, stage_of, waiting_on, with_connection, without_connection, is_clean, up_on, ends_on, ends_with, IsDecoding, touched_at, holds, left_with, CollectsAt, parted, marked_at, sessions_of, session_at, with_server, without_key};
 
 use crate::connections::connection::BoxedConnection;
 use crate::connections::table::{ConnectionLimits, Connections};

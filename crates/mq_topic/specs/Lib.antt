@@ -7,6 +7,7 @@ pub mod Match
 pub mod Matching
 pub mod NodeView
 pub mod Prefixes
+pub mod Prelude
 pub mod Qos
 pub mod Rows
 pub mod StoreLaws

@@ -1,9 +1,7 @@
 //! The children of a node of a trie.
 
 ghost use Rattle.std.specs.Prelude.{◌≡◌, ℕ, List, None, Some, IsSome, OnOk, OnErr};
-ghost use Rattle.std.specs.Bool.{MatchBool};
-ghost use Rattle.std.specs.Arc.{arc_str_bytes};
-ghost use Rattle.mq_topic.specs.NodeView.{ChildIn, child_beside, child_in, is_own, own_child};
+ghost use Rattle.mq_topic.specs.Prelude.{MatchBool, arc_str_bytes, ChildIn, child_beside, child_in, is_own, own_child};
 
 use crate::level_map::{Child, LevelMap};
 use crate::trie_nodes::NodeId;

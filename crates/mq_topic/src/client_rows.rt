@@ -1,11 +1,7 @@
 //! The rows of a store, indexed by client.
 
 ghost use Rattle.std.specs.Prelude.{◌≡◌, ◌++◌, ◌-◌, ◌^◌, length, min, [], ℕ, List, None, MatchOption, IfOk, OnOk, OnErr};
-ghost use Rattle.std.specs.FinMap.{find};
-ghost use Rattle.std.specs.Ordering.{nat_cmp};
-ghost use Rattle.std.specs.Cmp.Lexicographic.{slice_cmp};
-ghost use Rattle.mq_topic.specs.ClientRows.{own_rows};
-ghost use Rattle.mq_topic.specs.Rows.{IsAscending, row_qos, with_row, without_client, without_row};
+ghost use Rattle.mq_topic.specs.Prelude.{find, nat_cmp, slice_cmp, own_rows, IsAscending, row_qos, with_row, without_client, without_row};
 
 use crate::client::ClientKey;
 use crate::filter::TopicFilter;

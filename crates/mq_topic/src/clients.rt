@@ -1,10 +1,7 @@
 //! The clients at a node of the trie.
 
 ghost use Rattle.std.specs.Prelude.{◌≡◌, ℕ, None, Some, IsSome, IfOk, OnOk, OnErr, if◌then◌else◌};
-ghost use Rattle.std.specs.Bool.{MatchBool};
-ghost use Rattle.std.specs.Map.{lookup};
-ghost use Rattle.std.specs.Ordering.{is_eq, nat_cmp};
-ghost use Rattle.mq_topic.specs.NodeView.{ClientIn, client_in};
+ghost use Rattle.mq_topic.specs.Prelude.{MatchBool, lookup, is_eq, nat_cmp, ClientIn, client_in};
 
 use crate::client::ClientKey;
 use crate::qos::Qos;

@@ -1,8 +1,7 @@
 //! Why a text is not a topic name or topic filter.
 
 ghost use Rattle.std.specs.Prelude.{◌≡◌};
-ghost use Rattle.mq_topic.specs.Fault.{text_fault, topic_code};
-ghost use Rattle.mq_topic.specs.Laws.{TopicLaws};
+ghost use Rattle.mq_topic.specs.Prelude.{text_fault, topic_code, TopicLaws};
 
 use thiserror::Error;
 

@@ -1,14 +1,9 @@
 //! Topic filters (4.7).
 
 ghost use Rattle.std.specs.Prelude.{◌≡◌, true, nat_eq, refl, Some, IfOk, IfErr, IfSome, IfNone, IsErrOf};
-ghost use Rattle.std.specs.Cmp.{partial_equiv_from_equiv};
-ghost use Rattle.std.specs.Cmp.Lexicographic.{pointwise, slice_cmp, nat_list_eq_equiv, nat_list_cmp_total, texts_ties, texts_po};
-ghost use Rattle.std.specs.Cmp.Rules.{hashing};
+ghost use Rattle.mq_topic.specs.Prelude.{partial_equiv_from_equiv, pointwise, slice_cmp, nat_list_eq_equiv, nat_list_cmp_total, texts_ties, texts_po, hashing, nat_cmp, filter_fault, IsTopicFilter, is_topic_filter};
 ghost use Rattle.std.specs.Hash as fed;
-ghost use Rattle.std.specs.Ordering.{nat_cmp};
 ghost use Rattle.std.proofs.Common.{rules};
-ghost use Rattle.mq_topic.specs.Fault.{filter_fault};
-ghost use Rattle.mq_topic.specs.Topic.{IsTopicFilter, is_topic_filter};
 
 use crate::fault::{TopicFault, text_fault};
 use crate::level::levels_fault;

@@ -1,7 +1,7 @@
 //! The levels of a topic filter, separated by `/` (4.7.1).
 
 ghost use Rattle.std.specs.Prelude.{◌≡◌};
-ghost use Rattle.mq_topic.specs.Topic.{level_fault, levels, levels_fault};
+ghost use Rattle.mq_topic.specs.Prelude.{level_fault, levels, levels_fault};
 
 use crate::fault::TopicFault;
 

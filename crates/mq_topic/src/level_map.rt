@@ -37,9 +37,7 @@ pub(crate) struct LevelMap {
 
 impl LevelMap {
     ghost use Rattle.std.specs.Prelude.{◌≡◌, ℕ, List, None, Some, IsSome, OnOk, OnErr};
-    ghost use Rattle.std.specs.Arc.{arc_str_bytes};
-    ghost use Rattle.std.specs.Bool.{MatchBool};
-    ghost use Rattle.mq_topic.specs.NodeView.{child_numbered, is_own, mapped_child, own_child};
+    ghost use Rattle.mq_topic.specs.Prelude.{arc_str_bytes, MatchBool, child_numbered, is_own, mapped_child, own_child};
 
     /// No children.
     pub(crate) fn new(alloc: Global) -> LevelMap

@@ -1,11 +1,7 @@
 //! A plain store of subscriptions.
 
 ghost use Rattle.std.specs.Prelude.{◌≡◌, ◌≤◌, [], List, None, IfOk, OnOk, OnErr, is_some, not, ◌==◌, IsTrue, All};
-ghost use Rattle.std.specs.FinMap.{is_sorted, put};
-ghost use Rattle.std.specs.List.{prefix_len};
-ghost use Rattle.std.specs.Ordering.{is_lt, nat_cmp};
-ghost use Rattle.indexmap.specs.IndexMap.{index_map_len};
-ghost use Rattle.mq_topic.specs.Rows.{Row, IsAscending, IsMatched, UpTo, greater_of, is_key, key_cmp, matched, qos_of, row_qos, with_row, without_client, without_row};
+ghost use Rattle.mq_topic.specs.Prelude.{is_sorted, put, prefix_len, is_lt, nat_cmp, index_map_len, Row, IsAscending, IsMatched, UpTo, greater_of, is_key, key_cmp, matched, qos_of, row_qos, with_row, without_client, without_row};
 
 use crate::client::ClientKey;
 use crate::filter::TopicFilter;

@@ -1,9 +1,7 @@
 //! Matching of topic filters and topic names (4.7).
 
 ghost use Rattle.std.specs.Prelude.{◌≡◌, ◌∷◌, ◌<◌, ◌↔◌, IfSome, IsTrue, length};
-ghost use Rattle.mq_topic.specs.Match.{Match};
-ghost use Rattle.mq_topic.specs.Topic.{levels};
-ghost use Rattle.mq_topic.specs.Matching.{fits, fits_level, is_hash_alone, is_hidden, is_match, levels_left};
+ghost use Rattle.mq_topic.specs.Prelude.{Match, levels, fits, fits_level, is_hash_alone, is_hidden, is_match, levels_left};
 
 use crate::filter::TopicFilter;
 use crate::name::TopicName;

@@ -1,9 +1,7 @@
 //! Topic names (4.7).
 
 ghost use Rattle.std.specs.Prelude.{◌≡◌, true, IfOk, IfErr, IfSome, IfNone, IsErrOf};
-ghost use Rattle.std.specs.List.{list_any};
-ghost use Rattle.mq_topic.specs.Fault.{name_fault};
-ghost use Rattle.mq_topic.specs.Topic.{IsTopicName, is_topic_name, is_wildcard};
+ghost use Rattle.mq_topic.specs.Prelude.{list_any, name_fault, IsTopicName, is_topic_name, is_wildcard};
 
 use crate::fault::{TopicFault, text_fault};
 use mq_wire::Text;

@@ -1,8 +1,7 @@
 //! Quality of service (4.3).
 
 ghost use Rattle.std.specs.Prelude.{◌≡◌};
-ghost use Rattle.std.specs.Ordering.{nat_cmp};
-ghost use Rattle.mq_topic.specs.Qos.{greater, qos_number, qos_from};
+ghost use Rattle.mq_topic.specs.Prelude.{nat_cmp, greater, qos_number, qos_from};
 ghost use Rattle.mq_topic.specs.declared.qos.Qos as declared;
 
 /// Quality of service (4.3): how often a message is delivered.

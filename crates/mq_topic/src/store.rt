@@ -1,8 +1,7 @@
 //! Stores of subscriptions.
 
 ghost use Rattle.std.specs.Prelude.{◌≡◌, ◌-◌, ◌^◌, List, length, min, None, IfOk, OnOk, OnErr, is_some};
-ghost use Rattle.mq_topic.specs.Rows.{Row, IsAscending, IsMatched, matched, row_qos, with_row, without_client, without_row};
-ghost use Rattle.mq_topic.specs.StoreLaws.{StoreLaws};
+ghost use Rattle.mq_topic.specs.Prelude.{Row, IsAscending, IsMatched, matched, row_qos, with_row, without_client, without_row, StoreLaws};
 
 use crate::client::ClientKey;
 use crate::filter::TopicFilter;

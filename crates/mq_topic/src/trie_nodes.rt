@@ -1,12 +1,7 @@
 //! The nodes of a trie of levels, in one list, and the steps that change it.
 
 ghost use Rattle.std.specs.Prelude.{◌≡◌, ◌+◌, ℕ, Some, None, IsSome, IfOk, OnOk, OnErr, MatchOption, List};
-ghost use Rattle.std.specs.Bool.{MatchBool};
-ghost use Rattle.std.specs.Arc.{arc_str_bytes};
-ghost use Rattle.slab.specs.Slab.{slab_len};
-ghost use Rattle.mq_topic.specs.NodeView.{client_in};
-ghost use Rattle.mq_topic.specs.Tree.{ChildIs, ClientIs, Cut, Grown, IsBare, IsPlace, IsTrieOf, IsUsed, SameTree, client_from};
-ghost use Rattle.mq_topic.specs.TrieView.{child_of, client_of, tree};
+ghost use Rattle.mq_topic.specs.Prelude.{MatchBool, arc_str_bytes, slab_len, client_in, ChildIs, ClientIs, Cut, Grown, IsBare, IsPlace, IsTrieOf, IsUsed, SameTree, client_from, child_of, client_of, tree};
 
 use crate::children::Children;
 use crate::client::ClientKey;

@@ -1,14 +1,7 @@
 //! The store of subscriptions that finds them by walking a name.
 
 ghost use Rattle.std.specs.Prelude.{◌≡◌, ◌+◌, ◌-◌, ◌^◌, ◌≤◌, ℕ, [], List, None, IfOk, OnOk, OnErr, is_some, length, min, sum_by, IsTrue};
-ghost use Rattle.std.specs.Cmp.Lexicographic.{slice_cmp};
-ghost use Rattle.std.specs.FinMap.{find, is_sorted};
-ghost use Rattle.std.specs.Ordering.{nat_cmp};
-ghost use Rattle.mq_topic.specs.Prefixes.{PrefixCount};
-ghost use Rattle.mq_topic.specs.Rows.{IsAscending, IsMatched, Row, matched, row_qos, with_row, without_client, without_row};
-ghost use Rattle.mq_topic.specs.Topic.{levels};
-ghost use Rattle.mq_topic.specs.Tree.{IsLinked, IsTrieOf, Leads, RowMap, row_with, without, without_all};
-ghost use Rattle.mq_topic.specs.TrieView.{tree};
+ghost use Rattle.mq_topic.specs.Prelude.{slice_cmp, find, is_sorted, nat_cmp, PrefixCount, IsAscending, IsMatched, Row, matched, row_qos, with_row, without_client, without_row, levels, IsLinked, IsTrieOf, Leads, RowMap, row_with, without, without_all, tree};
 
 use crate::client::ClientKey;
 use crate::client_rows::{ClientRows, OwnRows};

@@ -1,16 +1,7 @@
 //! How a trie of levels is walked: along a filter, and along a name.
 
 ghost use Rattle.std.specs.Prelude.{◌≡◌, ◌+◌, ◌⊎◌, ◌↔◌, ◌∷◌, [], ℕ, List, Some, None, Option, true, IfOk, OnOk, OnErr, MatchOption};
-ghost use Rattle.std.specs.Map.{lookup};
-ghost use Rattle.std.specs.Ordering.{is_eq, nat_cmp};
-ghost use Rattle.mq_topic.specs.Found.{Among, Finds, Gathers, IsAt, IsThere, Steps};
-ghost use Rattle.mq_topic.specs.Matching.{begins, is_dollar, is_match, levels_left};
-ghost use Rattle.mq_topic.specs.NodeView.{client_in};
-ghost use Rattle.mq_topic.specs.Rows.{greater_of};
-ghost use Rattle.mq_topic.specs.Topic.{levels};
-ghost use Rattle.mq_topic.specs.Tree.{IsLinked, IsPlace, IsTrieOf, IsTrieUpTo, Leads, RowMap, SameTree};
-ghost use Rattle.mq_topic.specs.TrieView.{child_of, tree};
-ghost use Rattle.mq_topic.specs.declared.trie_nodes.NodeId.{NodeId};
+ghost use Rattle.mq_topic.specs.Prelude.{lookup, is_eq, nat_cmp, Among, Finds, Gathers, IsAt, IsThere, Steps, begins, is_dollar, is_match, levels_left, client_in, greater_of, levels, IsLinked, IsPlace, IsTrieOf, IsTrieUpTo, Leads, RowMap, SameTree, child_of, tree, NodeId};
 
 use crate::client::ClientKey;
 use crate::clients::Clients;

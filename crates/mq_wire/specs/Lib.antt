@@ -1,6 +1,7 @@
 pub mod Bytes
 pub mod Length
 pub mod Number
+pub mod Prelude
 pub mod Reading
 pub mod Steps
 pub mod Text

@@ -3,8 +3,7 @@
 //! necessary is refused, except by a lenient reader.
 
 ghost use Rattle.std.specs.Prelude.{◌≡◌, ℕ, ◌+◌, ◌<◌, ◌≤◌, ◌^◌, ◌↔◌, true, false, List, [], ◌∷◌, ◌++◌, length, take, drop, IsSome, IfSome, IfNone};
-ghost use Rattle.mq_wire.specs.Length.{Length};
-ghost use Rattle.mq_wire.specs.Value.{value_of};
+ghost use Rattle.mq_wire.specs.Prelude.{Length, value_of};
 
 use std::marker::Model;
 
@@ -49,7 +48,7 @@ impl Model for VarlenReader {
 }
 
 impl VarlenReader {
-    ghost use Rattle.mq_wire.specs.Steps.{Continue, IsStep};
+    ghost use Rattle.mq_wire.specs.Prelude.{Continue, IsStep};
 
     /// A reader that has received no byte.
     pub fn new() -> VarlenReader

@@ -1,7 +1,7 @@
 //! Reads a remaining length at the front of a buffer (2.2.3).
 
 ghost use Rattle.std.specs.Prelude.{◌≡◌, true, false};
-ghost use Rattle.mq_wire.specs.Reading.{IsSmall, LengthLaws, last_byte, read_length};
+ghost use Rattle.mq_wire.specs.Prelude.{IsSmall, LengthLaws, last_byte, read_length};
 
 /// The result of reading a remaining length at the front of a buffer.
 #[derive(Clone, Copy, Debug, PartialEq, Eq)]

@@ -1,7 +1,7 @@
 //! Two-byte integers in big-endian order (1.5.2).
 
 ghost use Rattle.std.specs.Prelude.{◌≡◌, ◌+◌, ◌≤◌, ◌++◌, [], ◌∷◌, length, OnOk, OnErr};
-ghost use Rattle.mq_wire.specs.Number.{NumberLaws, number, number_in};
+ghost use Rattle.mq_wire.specs.Prelude.{NumberLaws, number, number_in};
 
 use byteorder::{BigEndian, ByteOrder};
 use std::alloc::AllocError;

@@ -1,11 +1,8 @@
 //! Texts compare, order and hash like their bytes.
 
 ghost use Rattle.std.specs.Prelude.{◌≡◌, nat_eq, refl, Some};
-ghost use Rattle.std.specs.Ordering.{nat_cmp};
+ghost use Rattle.mq_wire.specs.Prelude.{nat_cmp, partial_equiv_from_equiv, pointwise, slice_cmp, nat_list_eq_equiv, nat_list_cmp_total, texts_ties, texts_po, hashing};
 ghost use Rattle.std.specs.Hash as fed;
-ghost use Rattle.std.specs.Cmp.{partial_equiv_from_equiv};
-ghost use Rattle.std.specs.Cmp.Lexicographic.{pointwise, slice_cmp, nat_list_eq_equiv, nat_list_cmp_total, texts_ties, texts_po};
-ghost use Rattle.std.specs.Cmp.Rules.{hashing};
 ghost use Rattle.std.proofs.Common.{rules};
 
 use crate::text::Text;

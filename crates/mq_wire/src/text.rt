@@ -2,9 +2,7 @@
 //! packet stores the number of bytes in two bytes before them.
 
 ghost use Rattle.std.specs.Prelude.{◌≡◌, ◌+◌, ◌<◌, ◌↔◌, ◌≤◌, true, length, slice_range, IfOk, IfErr, IsErrOf};
-ghost use Rattle.std.specs.List.{list_any};
-ghost use Rattle.mq_wire.specs.Text.{IsText, has_nul, is_special};
-ghost use Rattle.mq_wire.specs.TextReading.{TextLaws, checked_text, read_text};
+ghost use Rattle.mq_wire.specs.Prelude.{list_any, IsText, has_nul, is_special, TextLaws, checked_text, read_text};
 
 use crate::number::number_at;
 use bytes::{ByteStr, Bytes};

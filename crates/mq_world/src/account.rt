@@ -3,8 +3,7 @@
 ghost use Rattle.std.specs.Prelude.{◌≡◌, ◌∷◌, ℕ, [], OnOk, OnErr, nat_eq};
 ghost use Rattle.std.specs.HashMap.{get};
 ghost use Rattle.std.specs.Option.{unwrap_or};
-ghost use Rattle.mq_end.specs.Both.{answered_identifier};
-ghost use Rattle.mq_world.specs.Half.{accepted_with, freed_with, last_place, none_accepted, none_handed};
+ghost use Rattle.mq_world.specs.Half.{last_place};
 
 use mq_end::{Happening, Progress};
 use mq_packet::{Message, PacketId};
@@ -37,8 +36,7 @@ pub struct Account {
 }
 
 impl Account {
-    ghost use Rattle.mq_world.specs.OverBytes.{handed_with};
-    ghost use Rattle.mq_world.specs.Listed.{accepted_in, handed_in, accepted_count, handed_count};
+    ghost use Rattle.mq_world.specs.Prelude.{answered_identifier, accepted_with, freed_with, none_accepted, none_handed, handed_with, accepted_in, handed_in, accepted_count, handed_count};
 
     /// An account without messages.
     pub fn new(alloc: Global) -> Account

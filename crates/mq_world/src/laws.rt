@@ -1,16 +1,6 @@
 //! The laws of every run of the machine.
 
-ghost use Rattle.mq_world.specs.Headline.{HeadlineLaw};
-ghost use Rattle.mq_world.specs.Settling.{SettlingLaw};
-ghost use Rattle.mq_world.specs.AtOnce.{AtOnceLaw};
-ghost use Rattle.mq_world.specs.Identifiers.{IdentifiersLaw};
-ghost use Rattle.mq_world.specs.Runs.{RunsLaw};
-ghost use Rattle.mq_world.specs.Sessions.{SessionsLaw};
-ghost use Rattle.mq_world.specs.Carried.{CarriedLaw};
-ghost use Rattle.mq_world.specs.Examples.{Examples};
-ghost use Rattle.mq_world.specs.OverBytes.{OverBytes};
-ghost use Rattle.mq_world.specs.SettlesOver.{SettlesOver};
-ghost use Rattle.mq_world.specs.EventByEvent.{EventByEvent};
+ghost use Rattle.mq_world.specs.Prelude.{HeadlineLaw, SettlingLaw, AtOnceLaw, IdentifiersLaw, RunsLaw, SessionsLaw, CarriedLaw, Examples, OverBytes, SettlesOver, EventByEvent};
 
 use mq_decode::reads_again;
 use mq_end::closing_laws;

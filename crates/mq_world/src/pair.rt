@@ -1,16 +1,7 @@
 //! Two ends that are joined by two wires of bytes, and their reaction to each event.
 
 ghost use Rattle.std.specs.Prelude.{◌≡◌, ◌++◌, ◌↔◌, ◌<◌, ◌&&◌, ℕ, true, false, not, nat_lt, take, drop, length, OnOk, OnErr, IfOk, IfSome, IsTrue};
-ghost use Rattle.mq_decode.specs.Limits.{Bounds};
-ghost use Rattle.mq_end.specs.End.{is_live};
-ghost use Rattle.mq_end.specs.Publishing.{connect_of};
-ghost use Rattle.mq_world.specs.Carries.{IsSpanned};
-ghost use Rattle.mq_world.specs.Listed.{AcceptedGrows, accepted_in};
-ghost use Rattle.mq_world.specs.Machine.{Machine, first_packet};
-ghost use Rattle.mq_world.specs.OverBytes.{Stands, near, left_on};
-ghost use Rattle.mq_world.specs.Pairs.{wired_of};
-ghost use Rattle.mq_world.specs.SettlesOver.{SettledFrom};
-ghost use Rattle.mq_world.specs.World.{Does, IsDelivered, IsOpened, IsSettled, IsIdle, MetNoWant};
+ghost use Rattle.mq_world.specs.Prelude.{Bounds, is_live, connect_of, IsSpanned, AcceptedGrows, accepted_in, Machine, first_packet, Stands, near, left_on, wired_of, SettledFrom, Does, IsDelivered, IsOpened, IsSettled, IsIdle, MetNoWant};
 
 use crate::answer::{Answer, Delivery, Opening, Settling};
 use crate::event::Event;

@@ -1,7 +1,7 @@
 //! Events that are generated for tests.
 
 ghost use Rattle.std.specs.Prelude.{◌≡◌, ◌<◌, IfOk};
-ghost use Rattle.mq_world.specs.MadeUp.{made_event, made_message, made_qos, made_side, made_up};
+ghost use Rattle.mq_world.specs.Prelude.{made_event, made_message, made_qos, made_side, made_up};
 
 use crate::event::Event;
 use crate::side::Side;

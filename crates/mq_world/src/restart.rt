@@ -1,11 +1,7 @@
 //! The client of a program that ended, made anew from the session that was saved.
 
 ghost use Rattle.std.specs.Prelude.{◌≡◌, ◌<◌, false, IfOk, IfErr, IfSome};
-ghost use Rattle.mq_end.specs.End.{resumed};
-ghost use Rattle.mq_end.specs.Publishing.{connect_of};
-ghost use Rattle.mq_end.specs.Resuming.{FitsWithin, kept_session};
-ghost use Rattle.mq_flow.specs.Saved.{AreWithin};
-ghost use Rattle.mq_world.specs.Machine.{first_packet};
+ghost use Rattle.mq_world.specs.Prelude.{resumed, connect_of, FitsWithin, kept_session, AreWithin, first_packet};
 
 use mq_decode::Limits;
 use mq_end::{ClientConfig, ClientEnd};

@@ -1,14 +1,7 @@
 //! A client and a server under a list of events.
 
 ghost use Rattle.std.specs.Prelude.{◌≡◌, ◌<◌, ◌≤◌, ◌↔◌, All, None, Some, ◌∷◌, ◌++◌, [], true, false, Ok, IfOk, IfSome, IsSome, IsErr, OnOk, OnErr};
-ghost use Rattle.mq_flow.specs.Window.{Spans};
-ghost use Rattle.mq_world.specs.Carries.{Wired, HaveWindow, seen};
-ghost use Rattle.mq_world.specs.Headline.{Headline};
-ghost use Rattle.mq_world.specs.Machine.{Machine};
-ghost use Rattle.mq_world.specs.OverBytes.{Stands, near};
-ghost use Rattle.mq_world.specs.Listed.{AcceptedGrows, accepted_in, handed_in};
-ghost use Rattle.mq_world.specs.SettlesOver.{SettledFrom};
-ghost use Rattle.mq_world.specs.World.{Does, IsNeverFull, IsNew, Leads, MetNoWant, Settles};
+ghost use Rattle.mq_world.specs.Prelude.{Spans, Wired, HaveWindow, seen, Headline, Machine, Stands, near, AcceptedGrows, accepted_in, handed_in, SettledFrom, Does, IsNeverFull, IsNew, Leads, MetNoWant, Settles};
 
 use crate::account::Account;
 use crate::answer::Answer;

@@ -1,7 +1,7 @@
 //! New connections.
 
 ghost use Rattle.std.specs.Prelude.{◌≢◌, IfErr};
-ghost use Rattle.mq_broker.specs.declared.end.BrokerEnd.TheVariants.{PacketLimit};
+ghost use Rattle.mq_broker.specs.Prelude.{PacketLimit};
 
 use super::{RETRY, Server};
 use crate::acceptor::{Accepted, accept};

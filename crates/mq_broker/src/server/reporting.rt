@@ -1,7 +1,7 @@
 //! The log of the rounds.
 
 ghost use Rattle.std.specs.Prelude.{◌≡◌, [], OnOk};
-ghost use Rattle.mq_broker.specs.Snapshots.{AreReported};
+ghost use Rattle.mq_broker.specs.Prelude.{AreReported};
 
 use super::Server;
 use mq_loop::{Broker, Report, SnapshotBroker};

@@ -1,9 +1,7 @@
 //! Closes a connection for a reason that the broker found (4.8).
 
 ghost use Rattle.std.specs.Prelude.{◌≡◌, ◌+◌, ◌≤◌, ◌<◌, Bool, None};
-ghost use Rattle.mq_route.specs.Hub.{key_on, stage_of};
-ghost use Rattle.mq_route.specs.Work.{close};
-ghost use Rattle.mq_hub.specs.Inside.Refinement.{Refines};
+ghost use Rattle.mq_hub.specs.Prelude.{key_on, stage_of, close, Refines};
 
 use crate::acts::ActLog;
 use crate::close::disconnect::close_up;

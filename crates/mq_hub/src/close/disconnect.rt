@@ -1,11 +1,7 @@
 //! Closes a connection on which a client is connected (3.1.2.4, 4.8).
 
 ghost use Rattle.std.specs.Prelude.{◌≡◌, ◌+◌, ◌≤◌, ◌<◌, ℕ, List, true, false, Some, None};
-ghost use Rattle.mq_route.specs.Hub.{is_clean, key_of, key_on, stage_of, up_on};
-ghost use Rattle.mq_tables.specs.declared.rules.CopyRules.{CopyRules};
-ghost use Rattle.mq_tables.specs.Sessions.{sessions_of};
-ghost use Rattle.mq_hub.specs.Inside.Close.{close_at, parts, will_left};
-ghost use Rattle.mq_hub.specs.Inside.TableSteps.{AreHubTables, Proceeds};
+ghost use Rattle.mq_hub.specs.Prelude.{is_clean, key_of, key_on, stage_of, up_on, CopyRules, sessions_of, close_at, parts, will_left, AreHubTables, Proceeds};
 
 use crate::acts::ActLog;
 use crate::will::last_will::last_will;

@@ -2,13 +2,7 @@
 //! memory ran out (4.8).
 
 ghost use Rattle.std.specs.Prelude.{◌≡◌, ◌≤◌, Bool, List, ℕ, Err, true, OnOk, OnErr};
-ghost use Rattle.mq_decode.specs.Grammar.{IsFront};
-ghost use Rattle.mq_decode.specs.Limits.{Bounds};
-ghost use Rattle.mq_route.specs.Arrives.{on_malformed};
-ghost use Rattle.mq_route.specs.Hub.{is_open, stage_of};
-ghost use Rattle.mq_route.specs.Work.{close};
-ghost use Rattle.mq_hub.specs.Inside.Input.{RefinesBytes};
-ghost use Rattle.mq_hub.specs.Inside.Refinement.{Refines};
+ghost use Rattle.mq_hub.specs.Prelude.{IsFront, Bounds, on_malformed, is_open, stage_of, close, RefinesBytes, Refines};
 
 use crate::acts::ActLog;
 use crate::hub::HubOver;

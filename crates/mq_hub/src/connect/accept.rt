@@ -1,12 +1,7 @@
 //! Handles the first packet of a connection (3.1).
 
 ghost use Rattle.std.specs.Prelude.{◌≡◌, ◌+◌, ◌≤◌, ◌<◌, ◌^◌, ◌==◌, ◌&&◌, not, Bool, true, false, Some, None, is_some, length, OnOk, OnErr};
-ghost use Rattle.mq_packet.specs.Encoding.{fields};
-ghost use Rattle.mq_route.specs.Arrives.{accept_connect, on_first_packet, on_connect};
-ghost use Rattle.mq_route.specs.Hub.{is_open, key_of, stage_of, up_on};
-ghost use Rattle.mq_route.specs.Welcome.{needs_new, refusal};
-ghost use Rattle.mq_hub.specs.Inside.Refinement.{Refines};
-ghost use Rattle.mq_hub.specs.Inside.Invariant.{IsWillWithin};
+ghost use Rattle.mq_hub.specs.Prelude.{fields, accept_connect, on_first_packet, on_connect, is_open, key_of, stage_of, up_on, needs_new, refusal, Refines, IsWillWithin};
 
 use crate::acts::ActLog;
 use crate::hub::HubOver;

@@ -1,9 +1,7 @@
 //! Checks a CONNECT against the tables of the broker (3.1.3.1, 3.1.3.4, 3.2.2.3).
 
 ghost use Rattle.std.specs.Prelude.{◌≡◌, IfOk};
-ghost use Rattle.mq_route.specs.Hub.{key_of};
-ghost use Rattle.mq_route.specs.Welcome.{client_of, refusal};
-ghost use Rattle.mq_hub.specs.Inside.ConnectChecks.{IsCounted, IsStatusOf};
+ghost use Rattle.mq_hub.specs.Prelude.{key_of, client_of, refusal, IsCounted, IsStatusOf};
 
 use crate::connect::check::{Counts, SessionStatus, client_of, refusal};
 use crate::hub::HubOver;

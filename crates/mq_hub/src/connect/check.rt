@@ -1,12 +1,7 @@
 //! The checks of a CONNECT, and the client identifier of its session (3.1.3.1, 3.1.3.4, 3.2.2.3).
 
 ghost use Rattle.std.specs.Prelude.{◌≡◌, ℕ, ◌==◌, ◌&&◌, ◌++◌, not, Option, length, IfOk};
-ghost use Rattle.std.specs.List.{list_any};
-ghost use Rattle.mq_route.specs.Hub.{HubState, key_of};
-ghost use Rattle.mq_tables.specs.Sessions.{sessions_of};
-ghost use Rattle.mq_hub.specs.Inside.ConnectChecks.{IsCounted, IsStatusOf};
-ghost use Rattle.mq_route.specs.Welcome.{client_of, has_digest, has_password, is_hashed_login, is_hashed_one, is_one_of, is_unavailable, login_refusal, made_up, made_up_from, refusal, refusal_by_tables};
-ghost use Rattle.sha2.specs.Sha256.{sha256};
+ghost use Rattle.mq_hub.specs.Prelude.{list_any, HubState, key_of, sessions_of, IsCounted, IsStatusOf, client_of, has_digest, has_password, is_hashed_login, is_hashed_one, is_one_of, is_unavailable, login_refusal, made_up, made_up_from, refusal, refusal_by_tables, sha256};
 
 use mq_packet::{Connect, Login, RefusalCode};
 use mq_route::{HashedUser, HubConfig, User};

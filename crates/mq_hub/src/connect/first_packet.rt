@@ -1,11 +1,7 @@
 //! Closes a connection whose first packet is malformed or is not CONNECT (3.1, 4.8).
 
 ghost use Rattle.std.specs.Prelude.{◌≡◌, ◌+◌, ◌≤◌, ◌<◌, Bool, false, OnOk, OnErr};
-ghost use Rattle.mq_end.specs.State.{is_level};
-ghost use Rattle.mq_route.specs.Arrives.{on_first_packet, on_malformed};
-ghost use Rattle.mq_route.specs.Hub.{stage_of};
-ghost use Rattle.mq_hub.specs.Inside.Refinement.{Refines};
-ghost use Rattle.mq_hub.specs.Inside.ConnectChecks.{is_connect};
+ghost use Rattle.mq_hub.specs.Prelude.{is_level, on_first_packet, on_malformed, stage_of, Refines, is_connect};
 
 use crate::acts::ActLog;
 use crate::hub::HubOver;

@@ -1,12 +1,7 @@
 //! Accepts a CONNECT for a new session (3.1.2.4, 3.1.4, 3.2).
 
 ghost use Rattle.std.specs.Prelude.{◌≡◌, ◌+◌, ◌≤◌, ◌<◌, ◌^◌, ◌==◌, ◌&&◌, not, false, Some, None, length, IfOk, OnOk, OnErr};
-ghost use Rattle.mq_route.specs.Arrives.{start_session, terms_of};
-ghost use Rattle.mq_route.specs.Hub.{key_of, stage_of, up_on};
-ghost use Rattle.mq_route.specs.Work.{remove};
-ghost use Rattle.mq_hub.specs.Inside.Refinement.{Refines};
-ghost use Rattle.mq_hub.specs.Inside.Invariant.{IsWillWithin};
-ghost use Rattle.mq_hub.specs.Inside.ConnectRoom.{IsNewSession};
+ghost use Rattle.mq_hub.specs.Prelude.{start_session, terms_of, key_of, stage_of, up_on, remove, Refines, IsWillWithin, IsNewSession};
 
 use crate::acts::ActLog;
 use crate::connect::resume::terms_of;

@@ -1,10 +1,7 @@
 //! Refuses a CONNECT (3.2.2.3).
 
 ghost use Rattle.std.specs.Prelude.{◌≡◌, ◌+◌, ◌≤◌, ◌<◌, Bool, [], ◌∷◌, IfOk, OnOk, OnErr};
-ghost use Rattle.mq_packet.specs.Encoding.{encodings};
-ghost use Rattle.mq_route.specs.Hub.{stage_of};
-ghost use Rattle.mq_hub.specs.Inside.Refinement.{Refines};
-ghost use Rattle.mq_hub.specs.Inside.ConnectChecks.{refused};
+ghost use Rattle.mq_hub.specs.Prelude.{encodings, stage_of, Refines, refused};
 
 use crate::acts::ActLog;
 use crate::hub::HubOver;

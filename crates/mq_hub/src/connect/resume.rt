@@ -1,11 +1,7 @@
 //! Accepts a CONNECT for a session that resumes (3.1.4, 3.2).
 
 ghost use Rattle.std.specs.Prelude.{◌≡◌, ◌+◌, ◌≤◌, ◌<◌, ◌==◌, true, false, None, length, IfOk, OnOk, OnErr};
-ghost use Rattle.mq_route.specs.Arrives.{resume_session, terms_of};
-ghost use Rattle.mq_route.specs.Hub.{stage_of, up_on};
-ghost use Rattle.mq_hub.specs.Inside.Refinement.{Refines};
-ghost use Rattle.mq_hub.specs.Inside.Invariant.{IsWillWithin};
-ghost use Rattle.mq_hub.specs.Inside.ConnectRoom.{has_session};
+ghost use Rattle.mq_hub.specs.Prelude.{resume_session, terms_of, stage_of, up_on, Refines, IsWillWithin, has_session};
 
 use crate::acts::ActLog;
 use crate::hub::HubOver;

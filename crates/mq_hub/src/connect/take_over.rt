@@ -1,16 +1,7 @@
 //! Accepts a CONNECT of a client that is connected on another connection (3.1.4).
 
 ghost use Rattle.std.specs.Prelude.{◌≡◌, ◌≤◌, ◌<◌, ◌^◌, ◌+◌, ◌==◌, ◌&&◌, ◌||◌, ℕ, List, not, Bool, true, false, Some, None, length, is_some, IfSome, OnOk, OnErr};
-ghost use Rattle.mq_route.specs.Arrives.{accept_connect, start_session};
-ghost use Rattle.mq_route.specs.declared.close.HubClose.TheVariants.{TakenOver};
-ghost use Rattle.mq_route.specs.Hub.{is_clean, key_of, key_on, stage_of, up_on};
-ghost use Rattle.mq_route.specs.Welcome.{ends_with};
-ghost use Rattle.mq_route.specs.Work.{close, remove_if};
-ghost use Rattle.mq_tables.specs.Sessions.{sessions_of};
-ghost use Rattle.mq_hub.specs.Inside.Close.{close_at};
-ghost use Rattle.mq_hub.specs.Inside.Refinement.{Refines};
-ghost use Rattle.mq_hub.specs.Inside.Invariant.{IsWillWithin};
-ghost use Rattle.mq_hub.specs.Inside.TableSteps.{AreHubTables, Proceeds};
+ghost use Rattle.mq_hub.specs.Prelude.{accept_connect, start_session, TakenOver, is_clean, key_of, key_on, stage_of, up_on, ends_with, close, remove_if, sessions_of, close_at, Refines, IsWillWithin, AreHubTables, Proceeds};
 
 use crate::acts::ActLog;
 use crate::close::disconnect::close_up;

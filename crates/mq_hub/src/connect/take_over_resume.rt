@@ -2,20 +2,7 @@
 //! closed, so that the CONNECT cannot fail afterwards.
 
 ghost use Rattle.std.specs.Prelude.{◌≡◌, ◌+◌, ◌≤◌, ◌<◌, ◌^◌, ◌==◌, List, [], Bool, true, false, Some, None, length, IfOk, IfSome, OnOk, OnErr};
-ghost use Rattle.std.specs.Option.{option_copied};
-ghost use Rattle.mq_packet.specs.declared.connect.Connect.{Connect};
-ghost use Rattle.mq_packet.specs.declared.message.Message.{Message};
-ghost use Rattle.mq_route.specs.declared.close.HubClose.TheVariants.{TakenOver};
-ghost use Rattle.mq_route.specs.Arrives.{resume_session};
-ghost use Rattle.mq_route.specs.Hub.{is_clean, key_on, stage_of, up_on};
-ghost use Rattle.mq_route.specs.Work.{close};
-ghost use Rattle.mq_tables.specs.Connecting.{HasConnectRoomAt};
-ghost use Rattle.mq_tables.specs.Sessions.{session_at};
-ghost use Rattle.mq_hub.specs.Inside.Refinement.{Refines};
-ghost use Rattle.mq_hub.specs.Inside.Invariant.{IsWillWithin};
-ghost use Rattle.mq_hub.specs.Inside.Close.{close_at, parts, will_left};
-ghost use Rattle.mq_hub.specs.Inside.TableSteps.{AreHubTables, Proceeds};
-ghost use Rattle.mq_hub.specs.Inside.ConnectRoom.{will_messages};
+ghost use Rattle.mq_hub.specs.Prelude.{option_copied, Connect, Message, TakenOver, resume_session, is_clean, key_on, stage_of, up_on, close, HasConnectRoomAt, session_at, Refines, IsWillWithin, close_at, parts, will_left, AreHubTables, Proceeds, will_messages};
 
 use crate::acts::ActLog;
 use crate::close::disconnect::will_left;

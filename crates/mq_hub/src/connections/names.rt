@@ -1,10 +1,7 @@
 //! The names of the connections (4.2).
 
 ghost use Rattle.std.specs.Prelude.{◌≡◌, map, IfOk};
-ghost use Rattle.std.specs.List.{list_any};
-ghost use Rattle.mq_route.specs.declared.conn.Conn.{Conn};
-ghost use Rattle.mq_route.specs.Hub.{knows};
-ghost use Rattle.mq_route.specs.Routed.{same_conn};
+ghost use Rattle.mq_hub.specs.Prelude.{list_any, Conn, knows, same_conn};
 
 use crate::hub::HubOver;
 use mq_route::Conn;

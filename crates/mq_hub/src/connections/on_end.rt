@@ -1,9 +1,7 @@
 //! Ends a connection (4.2).
 
 ghost use Rattle.std.specs.Prelude.{◌≡◌, ◌≤◌, Bool, true, IfOk, IfErr, OnErr, None};
-ghost use Rattle.mq_route.specs.Hub.{is_open, key_on, knows, stage_of, without_connection};
-ghost use Rattle.mq_route.specs.Step.{HubStep, ended_open};
-ghost use Rattle.mq_hub.specs.Inside.Refinement.{Refines};
+ghost use Rattle.mq_hub.specs.Prelude.{is_open, key_on, knows, stage_of, without_connection, HubStep, ended_open, Refines};
 
 use crate::acts::ActLog;
 use crate::hub::HubOver;

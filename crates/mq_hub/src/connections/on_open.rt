@@ -1,9 +1,7 @@
 //! Opens a connection (4.2).
 
 ghost use Rattle.std.specs.Prelude.{◌≡◌, false, IfOk, IfErr, OnOk, OnErr};
-ghost use Rattle.mq_route.specs.Hub.{knows};
-ghost use Rattle.mq_route.specs.Step.{HubStep};
-ghost use Rattle.mq_hub.specs.Inside.Loading.{opened_at, with_opened};
+ghost use Rattle.mq_hub.specs.Prelude.{knows, HubStep, opened_at, with_opened};
 
 use crate::acts::ActLog;
 use crate::hub::HubOver;

@@ -1,8 +1,7 @@
 //! The pending output of a connection (4.2).
 
 ghost use Rattle.std.specs.Prelude.{◌≡◌, ◌<◌, length, true, IfOk, IfErr, IfSome, OnOk, OnErr};
-ghost use Rattle.mq_route.specs.Hub.{is_open, knows, new_end, stage_of, waiting_on};
-ghost use Rattle.mq_route.specs.Step.{HubStep, collected};
+ghost use Rattle.mq_hub.specs.Prelude.{is_open, knows, new_end, stage_of, waiting_on, HubStep, collected};
 
 use crate::hub::HubOver;
 use bytes::Bytes;

@@ -1,10 +1,7 @@
 //! The decoder of a connection, and the time of its last packet (3.1.2.10, 4.2).
 
 ghost use Rattle.std.specs.Prelude.{◌≡◌, None, true, IfSome};
-ghost use Rattle.mq_end.specs.End.{is_up};
-ghost use Rattle.mq_route.specs.Hub.{end_of, held_on, key_on, knows, stage_of};
-ghost use Rattle.mq_tables.specs.Connections.{IsDecoding};
-ghost use Rattle.mq_hub.specs.Inside.Input.{with_touched, with_held};
+ghost use Rattle.mq_hub.specs.Prelude.{is_up, end_of, held_on, key_on, knows, stage_of, IsDecoding, with_touched, with_held};
 
 use crate::hub::HubOver;
 use mq_decode::Decoder;

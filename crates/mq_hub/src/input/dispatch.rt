@@ -1,11 +1,7 @@
 //! Handles a packet of an open connection by its type (3.1 to 3.14, 4.8).
 
 ghost use Rattle.std.specs.Prelude.{◌≡◌, ◌≤◌, Bool, true, length, IfSome, OnOk, OnErr};
-ghost use Rattle.mq_end.specs.End.{is_up};
-ghost use Rattle.mq_packet.specs.Encoding.{fields};
-ghost use Rattle.mq_route.specs.Arrives.{dispatch_packet};
-ghost use Rattle.mq_route.specs.Hub.{end_of, is_open, key_on, stage_of};
-ghost use Rattle.mq_hub.specs.Inside.Refinement.{Refines};
+ghost use Rattle.mq_hub.specs.Prelude.{is_up, fields, dispatch_packet, end_of, is_open, key_on, stage_of, Refines};
 
 use crate::acts::ActLog;
 use crate::hub::HubOver;

@@ -1,10 +1,7 @@
 //! Handles a whole packet of a connection (3.1 to 3.14).
 
 ghost use Rattle.std.specs.Prelude.{◌≡◌, ◌≤◌, true, length};
-ghost use Rattle.mq_packet.specs.Encoding.{fields};
-ghost use Rattle.mq_route.specs.Arrives.{Growth, takes};
-ghost use Rattle.mq_route.specs.Hub.{is_open, stage_of};
-ghost use Rattle.mq_hub.specs.Inside.Refinement.{Refines};
+ghost use Rattle.mq_hub.specs.Prelude.{fields, Growth, takes, is_open, stage_of, Refines};
 
 use crate::acts::ActLog;
 use crate::hub::HubOver;

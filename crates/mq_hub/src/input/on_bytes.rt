@@ -1,12 +1,7 @@
 //! Handles the bytes that come on a connection (4.2).
 
 ghost use Rattle.std.specs.Prelude.{◌≡◌, ◌⊎◌, ◌≤◌, ◌<◌, ◌++◌, ℕ, List, [], None, true, length, take, IfOk, IfErr, OnErr};
-ghost use Rattle.mq_route.specs.declared.act.Act.{Act};
-ghost use Rattle.mq_route.specs.Hub.{held_on, is_open, knows, stage_of};
-ghost use Rattle.mq_route.specs.Step.{HubStep};
-ghost use Rattle.mq_route.specs.StepSome.{HubStepSome};
-ghost use Rattle.mq_tables.specs.Connections.{IsDecoding};
-ghost use Rattle.mq_hub.specs.Inside.Input.{RefinesBytes, IsNext, goes_on, with_held};
+ghost use Rattle.mq_hub.specs.Prelude.{Act, held_on, is_open, knows, stage_of, HubStep, HubStepSome, IsDecoding, RefinesBytes, IsNext, goes_on, with_held};
 
 use crate::acts::ActLog;
 use crate::hub::HubOver;

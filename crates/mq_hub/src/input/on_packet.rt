@@ -1,14 +1,7 @@
 //! Handles a packet of a connected client that changes only its session's end (3.3 to 3.14).
 
 ghost use Rattle.std.specs.Prelude.{◌≡◌, List, [], Bool, true, None, is_some, OnOk, OnErr};
-ghost use Rattle.mq_end.specs.Server.{server_gets};
-ghost use Rattle.mq_route.specs.declared.act.Act.{Act};
-ghost use Rattle.mq_route.specs.declared.conn.Conn.{Conn};
-ghost use Rattle.mq_route.specs.Arrives.{on_passed_packet};
-ghost use Rattle.mq_route.specs.Hub.{end_of, up_on};
-ghost use Rattle.mq_tables.specs.Calls.{CanServe};
-ghost use Rattle.mq_hub.specs.Inside.Requests.{AreAlike, Answers};
-ghost use Rattle.mq_hub.specs.Inside.Refinement.{Refines};
+ghost use Rattle.mq_hub.specs.Prelude.{server_gets, Act, Conn, on_passed_packet, end_of, up_on, CanServe, AreAlike, Answers, Refines};
 
 use crate::hub::HubOver;
 use mq_packet::Packet;

@@ -1,15 +1,8 @@
 //! Handles the packets of a connected client other than PUBLISH and UNSUBSCRIBE (3.3 to 3.14, 4.8).
 
 ghost use Rattle.std.specs.Prelude.{◌≡◌, ℕ, ◌≤◌, ◌+◌, ◌*◌, [], Bool, true, not, length, None, is_some, OnOk, OnErr, IfSome, IfNone};
+ghost use Rattle.mq_hub.specs.Prelude.{End, closes, is_up, server_up_gets, subscribe_size, on_connected_packet, on_passed_packet, end_of, is_open, stage_of, up_on, leaves, RequestsNothing, Refines};
 ghost use Rattle.mq_packet.specs.declared.packet.Packet.TheVariants as packets;
-ghost use Rattle.mq_end.specs.End.{End, closes, is_up};
-ghost use Rattle.mq_end.specs.Server.{server_up_gets};
-ghost use Rattle.mq_end.specs.Sizes.{subscribe_size};
-ghost use Rattle.mq_route.specs.Arrives.{on_connected_packet, on_passed_packet};
-ghost use Rattle.mq_route.specs.Hub.{end_of, is_open, stage_of, up_on};
-ghost use Rattle.mq_route.specs.Work.{leaves};
-ghost use Rattle.mq_hub.specs.Inside.Requests.{RequestsNothing};
-ghost use Rattle.mq_hub.specs.Inside.Refinement.{Refines};
 
 use crate::acts::ActLog;
 use crate::hub::HubOver;

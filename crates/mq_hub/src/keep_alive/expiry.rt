@@ -1,9 +1,7 @@
 //! Removes the sessions of clients that are absent for too long (3.1.2.4).
 
 ghost use Rattle.std.specs.Prelude.{◌≡◌, ◌+◌, ◌≤◌, length, IfOk};
-ghost use Rattle.mq_route.specs.Step.{expired_keys, remove_all};
-ghost use Rattle.mq_hub.specs.Inside.Expiry.{AreAway};
-ghost use Rattle.mq_hub.specs.Inside.Refinement.{Refines};
+ghost use Rattle.mq_hub.specs.Prelude.{expired_keys, remove_all, AreAway, Refines};
 
 use crate::acts::ActLog;
 use crate::hub::HubOver;

@@ -1,14 +1,7 @@
 //! Closes the connections whose keep-alive has run out (3.1.2.10), and those without CONNECT (3.1).
 
 ghost use Rattle.std.specs.Prelude.{◌≡◌, ◌+◌, ◌*◌, ◌≤◌, ◌^◌, [], drop, false, length, max, slice_get, Some, IfOk, IfErr, IfNone, IfSome, OnErr, OnOk};
-ghost use Rattle.std.specs.List.Sorted.{IsNonDecreasing};
-ghost use Rattle.mq_end.specs.KeepAlive.{is_late};
-ghost use Rattle.mq_route.specs.Hub.{knows};
-ghost use Rattle.mq_route.specs.Step.{HubStep, told};
-ghost use Rattle.mq_tables.specs.Connections.{connection_of};
-ghost use Rattle.mq_tables.specs.Late.{AreInTime, HasLate};
-ghost use Rattle.mq_hub.specs.Deadline.{IsIdleBefore};
-ghost use Rattle.mq_hub.specs.Inside.Tick.{TicksTo, late_of};
+ghost use Rattle.mq_hub.specs.Prelude.{IsNonDecreasing, is_late, knows, HubStep, told, connection_of, AreInTime, HasLate, IsIdleBefore, TicksTo, late_of};
 
 use crate::acts::ActLog;
 use crate::hub::HubOver;

@@ -1,14 +1,7 @@
 //! Has the end of a publisher process its PUBLISH (3.3, 4.3).
 
 ghost use Rattle.std.specs.Prelude.{◌≡◌, ℕ, List, true, None, Some, OnOk, OnErr};
-ghost use Rattle.mq_packet.specs.declared.message.Message.{Message};
-ghost use Rattle.mq_packet.specs.Publication.{fits_delivery};
-ghost use Rattle.mq_route.specs.Hub.{end_of};
-ghost use Rattle.mq_tables.specs.Calls.{CanServe, publish_call, reply_of};
-ghost use Rattle.mq_tables.specs.Sessions.{sessions_of};
-ghost use Rattle.mq_hub.specs.Inside.Requests.{AreAlike, Answers};
-ghost use Rattle.mq_hub.specs.Inside.Placement.{AreReady, HaveQueued, HaveSameBooks};
-ghost use Rattle.mq_hub.specs.Inside.QueuedAnswer.{publish_answer};
+ghost use Rattle.mq_hub.specs.Prelude.{Message, fits_delivery, end_of, CanServe, publish_call, reply_of, sessions_of, AreAlike, Answers, AreReady, HaveQueued, HaveSameBooks, publish_answer};
 
 use mq_packet::{Delivery, Message};
 use mq_tables::Tables;

@@ -1,12 +1,7 @@
 //! The plan of a delivery: the message to retain and the copies to place (3.3.1.3, 3.3.5).
 
 ghost use Rattle.std.specs.Prelude.{◌≡◌, ◌+◌, ◌≤◌, ◌++◌, [], length, true, IfOk, Ok};
-ghost use Rattle.mq_route.specs.Hub.{HubState};
-ghost use Rattle.mq_route.specs.Work.{have_room};
-ghost use Rattle.mq_tables.specs.Publishing.{AreSameButRoom, AreStillReady};
-ghost use Rattle.mq_tables.specs.Rules.{rules_of};
-ghost use Rattle.mq_hub.specs.Inside.Placement.{AreApart, AreFor, AreReady, HasSessions, Settles};
-ghost use Rattle.mq_hub.specs.Inside.QueuedAnswer.{answer_for};
+ghost use Rattle.mq_hub.specs.Prelude.{HubState, have_room, AreSameButRoom, AreStillReady, rules_of, AreApart, AreFor, AreReady, HasSessions, Settles, answer_for};
 
 use crate::acts::ActLog;
 use crate::publish::enqueue::{PlannedCopy, make_room, push_placed};

@@ -1,21 +1,7 @@
 //! The copies of a message, and their place in the sessions of the subscribers (3.3.5, 3.8.4).
 
 ghost use Rattle.std.specs.Prelude.{◌≡◌, ◌≤◌, ◌++◌, ◌∷◌, ◌&&◌, ◌||◌, [], ℕ, List, not, true, false, is_some, IfOk, OnOk, Ok};
-ghost use Rattle.mq_packet.specs.declared.message.Message.{Message};
-ghost use Rattle.mq_route.specs.Hub.{HubState, copies_of, for_key, up_on};
-ghost use Rattle.mq_route.specs.declared.act.Act.{Act};
-ghost use Rattle.mq_route.specs.declared.config.HubConfig.{HubConfig};
-ghost use Rattle.mq_route.specs.Work.{all_fit, lacks_room, place_all, retained_copies};
-ghost use Rattle.mq_end.specs.Both.{has_identifier};
-ghost use Rattle.mq_end.specs.Sizes.{publish_size};
-ghost use Rattle.mq_tables.specs.Publishing.{AreSameButRoom, AreStillReady, IsReadyAt};
-ghost use Rattle.mq_tables.specs.Tables.{HubTables};
-ghost use Rattle.mq_hub.specs.Inside.DeliveryPlan.{AreShared};
-ghost use Rattle.mq_hub.specs.Inside.Refinement.{Refines};
-ghost use Rattle.mq_hub.specs.Inside.Invariant.{HubInvariant};
-ghost use Rattle.mq_hub.specs.Inside.Placement.{copies_found, is_among, placed_all, AreApart, AreFor, AreReady, AreUpAlike, Settles};
-ghost use Rattle.mq_hub.specs.Inside.Placement.{placed_acts, with_list, AreHeard, CanPlace, HasSessions, IsFor};
-ghost use Rattle.mq_hub.specs.Inside.View.{hub_of};
+ghost use Rattle.mq_hub.specs.Prelude.{Message, HubState, copies_of, for_key, up_on, Act, HubConfig, all_fit, lacks_room, place_all, retained_copies, has_identifier, publish_size, AreSameButRoom, AreStillReady, IsReadyAt, HubTables, AreShared, Refines, HubInvariant, copies_found, is_among, placed_all, AreApart, AreFor, AreReady, AreUpAlike, Settles, placed_acts, with_list, AreHeard, CanPlace, HasSessions, IsFor, hub_of};
 
 use crate::publish::shared_copies::SharedCopies;
 use mq_end::PreparedMessage;

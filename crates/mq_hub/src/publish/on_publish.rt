@@ -1,17 +1,9 @@
 //! Handles a PUBLISH of a connected client (3.3, 4.3).
 
 ghost use Rattle.std.specs.Prelude.{◌≡◌, ◌≤◌, List, Bool, true, false, Some, is_some, Ok, OnOk, OnErr};
+ghost use Rattle.mq_hub.specs.Prelude.{is_up, publish_size, Act, Conn, on_connected_packet, HubState, end_of, is_open, key_on, stage_of, up_on, close, Refines, IsReceived};
 ghost use Rattle.mq_packet.specs.declared.packet.Packet.TheVariants as packets;
-ghost use Rattle.mq_end.specs.End.{is_up};
-ghost use Rattle.mq_end.specs.Sizes.{publish_size};
-ghost use Rattle.mq_route.specs.declared.act.Act.{Act};
 ghost use Rattle.mq_route.specs.declared.close.HubClose.TheVariants as whys;
-ghost use Rattle.mq_route.specs.declared.conn.Conn.{Conn};
-ghost use Rattle.mq_route.specs.Arrives.{on_connected_packet};
-ghost use Rattle.mq_route.specs.Hub.{HubState, end_of, is_open, key_on, stage_of, up_on};
-ghost use Rattle.mq_route.specs.Work.{close};
-ghost use Rattle.mq_hub.specs.Inside.Refinement.{Refines};
-ghost use Rattle.mq_hub.specs.Inside.Reception.{IsReceived};
 
 use crate::acts::ActLog;
 use crate::hub::HubOver;

@@ -1,7 +1,7 @@
 //! The answer to a packet, which is queued before copies are placed.
 
 ghost use Rattle.std.specs.Prelude.{◌≡◌, is_some};
-ghost use Rattle.mq_hub.specs.Inside.QueuedAnswer.{answer_for, publish_answer};
+ghost use Rattle.mq_hub.specs.Prelude.{answer_for, publish_answer};
 
 use mq_packet::Delivery;
 use mq_topic::ClientKey;

@@ -1,12 +1,8 @@
 //! Classifies a PUBLISH before anything changes (3.3, 4.3).
 
 ghost use Rattle.std.specs.Prelude.{◌≡◌, true, is_some};
+ghost use Rattle.mq_hub.specs.Prelude.{fits_window, is_up, end_of, up_on, sessions_of, CanReceive, IsReceived, by_identifier};
 ghost use Rattle.std.specs.FinSet as set;
-ghost use Rattle.mq_flow.specs.Window.{fits_window};
-ghost use Rattle.mq_end.specs.End.{is_up};
-ghost use Rattle.mq_route.specs.Hub.{end_of, up_on};
-ghost use Rattle.mq_tables.specs.Sessions.{sessions_of};
-ghost use Rattle.mq_hub.specs.Inside.Reception.{CanReceive, IsReceived, by_identifier};
 
 use crate::hub::HubOver;
 use mq_end::ServerEnd;

@@ -2,20 +2,7 @@
 //! delivers it.
 
 ghost use Rattle.std.specs.Prelude.{◌≡◌, ◌+◌, ◌≤◌, ◌<◌, ℕ, length, true, IfOk, Ok};
-ghost use Rattle.mq_packet.specs.declared.message.Message.{Message};
-ghost use Rattle.mq_end.specs.Sizes.{publish_size};
-ghost use Rattle.mq_route.specs.declared.config.HubConfig.{HubConfig};
-ghost use Rattle.mq_route.specs.Hub.{HubState, copies_of};
-ghost use Rattle.mq_route.specs.Work.{have_room, deliver};
-ghost use Rattle.mq_tables.specs.Publishing.{AreStillReady};
-ghost use Rattle.mq_tables.specs.Retained.{IsKeptOf};
-ghost use Rattle.mq_tables.specs.Rules.{rules_of};
-ghost use Rattle.mq_hub.specs.Inside.Refinement.{Refines};
-ghost use Rattle.mq_hub.specs.Inside.Invariant.{HubInvariant};
-ghost use Rattle.mq_hub.specs.Inside.Placement.{placed_all, AreFor, HasSessions, Settles};
-ghost use Rattle.mq_hub.specs.Inside.QueuedAnswer.{answer_for};
-ghost use Rattle.mq_hub.specs.Inside.View.{hub_of};
-ghost use Rattle.mq_hub.specs.Inside.DeliveryPlan.{AreTablesAlike, IsPlanned, IsReserved};
+ghost use Rattle.mq_hub.specs.Prelude.{Message, publish_size, HubConfig, HubState, copies_of, have_room, deliver, AreStillReady, IsKeptOf, rules_of, Refines, HubInvariant, placed_all, AreFor, HasSessions, Settles, answer_for, hub_of, AreTablesAlike, IsPlanned, IsReserved};
 
 use crate::acts::ActLog;
 use crate::publish::delivery::{DeliveryPlan, push_all};

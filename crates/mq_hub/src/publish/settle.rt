@@ -1,16 +1,7 @@
 //! Decides which of the due copies are placed, and reserves room for these (2.3.1).
 
 ghost use Rattle.std.specs.Prelude.{◌≡◌, ◌⊎◌, ◌+◌, ◌++◌, ◌∷◌, ◌&&◌, [], ℕ, List, true, false, is_some, length, Ok, IfOk, IfSome};
-ghost use Rattle.mq_packet.specs.declared.message.Message.{Message};
-ghost use Rattle.mq_route.specs.Hub.{HubState, for_key};
-ghost use Rattle.mq_route.specs.Work.{all_fit, drops_copies, have_room};
-ghost use Rattle.mq_tables.specs.Publishing.{AreSameButRoom, AreStillReady, IsReadyAt};
-ghost use Rattle.mq_tables.specs.Rules.{rules_of, space_of};
-ghost use Rattle.mq_tables.specs.Sessions.{session_at};
-ghost use Rattle.mq_hub.specs.Inside.Placement.{is_among, is_cut, placed_acts, AreApart, AreFor, AreReady, HasSessions, IsFor, Settles};
-ghost use Rattle.mq_hub.specs.Inside.Placement.{first_fitting, fitting_acts};
-ghost use Rattle.mq_hub.specs.Inside.QueuedAnswer.{answer_for};
-ghost use Rattle.mq_hub.specs.Inside.Settlement.{IsSettled, IsSettledAs, IsSettledFor};
+ghost use Rattle.mq_hub.specs.Prelude.{Message, HubState, for_key, all_fit, drops_copies, have_room, AreSameButRoom, AreStillReady, IsReadyAt, rules_of, space_of, session_at, is_among, is_cut, placed_acts, AreApart, AreFor, AreReady, HasSessions, IsFor, Settles, first_fitting, fitting_acts, answer_for, IsSettled, IsSettledAs, IsSettledFor};
 
 use crate::publish::enqueue::{PlannedCopy, make_room_for};
 use crate::publish::queued_answer::{QueuedAnswer, answer_for};

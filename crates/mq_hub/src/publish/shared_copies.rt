@@ -1,11 +1,7 @@
 //! Copies of a large message that share one encoding (3.3.5).
 
 ghost use Rattle.std.specs.Prelude.{◌≡◌, ℕ, false, true, Some, IfOk, IfSome};
-ghost use Rattle.std.specs.Option.{option_to_list};
-ghost use Rattle.mq_packet.specs.declared.message.Message.{Message};
-ghost use Rattle.mq_packet.specs.Publication.{fits_delivery};
-ghost use Rattle.mq_route.specs.Copies.{copy, copy_by};
-ghost use Rattle.mq_hub.specs.Inside.DeliveryPlan.{AreShared};
+ghost use Rattle.mq_hub.specs.Prelude.{option_to_list, Message, fits_delivery, copy, copy_by, AreShared};
 
 use mq_end::PreparedMessage;
 use mq_packet::{Delivery, Message};

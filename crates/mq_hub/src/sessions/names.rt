@@ -1,9 +1,7 @@
 //! The client identifiers of the sessions (3.1.2.4).
 
 ghost use Rattle.std.specs.Prelude.{◌≡◌, map, IfOk};
-ghost use Rattle.std.specs.Cmp.Lexicographic.{slice_cmp};
-ghost use Rattle.std.specs.List.Sorted.{IsPermutation, IsSorted};
-ghost use Rattle.std.specs.Ordering.{nat_cmp};
+ghost use Rattle.mq_hub.specs.Prelude.{slice_cmp, IsPermutation, IsSorted, nat_cmp};
 
 use crate::hub::HubOver;
 use mq_topic::FilterStore;

@@ -1,9 +1,7 @@
 //! Ends a session (3.1.2.4).
 
 ghost use Rattle.std.specs.Prelude.{◌≡◌, ◌+◌, ◌≤◌, ◌<◌, None};
-ghost use Rattle.mq_route.specs.Hub.{up_on};
-ghost use Rattle.mq_route.specs.Work.{remove};
-ghost use Rattle.mq_hub.specs.Inside.Refinement.{Refines};
+ghost use Rattle.mq_hub.specs.Prelude.{up_on, remove, Refines};
 
 use crate::acts::ActLog;
 use crate::hub::HubOver;

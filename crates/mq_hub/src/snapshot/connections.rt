@@ -1,10 +1,7 @@
 //! Loading connections (4.2).
 
 ghost use Rattle.std.specs.Prelude.{◌≡◌, ◌<◌, [], None, OnOk, true};
-ghost use Rattle.mq_route.specs.Hub.{key_on, knows, stage_of, with_connection};
-ghost use Rattle.mq_tables.specs.Connections.{connected_for};
-ghost use Rattle.mq_hub.specs.Inside.Input.{with_held};
-ghost use Rattle.mq_hub.specs.Inside.Loading.{HaveNoOutput};
+ghost use Rattle.mq_hub.specs.Prelude.{key_on, knows, stage_of, with_connection, connected_for, with_held, HaveNoOutput};
 
 use crate::hub::HubOver;
 use crate::snapshot::limits::is_will_within;

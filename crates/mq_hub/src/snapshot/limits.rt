@@ -1,8 +1,7 @@
 //! Size limits of messages in a snapshot (2.2.3).
 
 ghost use Rattle.std.specs.Prelude.{◌+◌, ◌≤◌, length, IsTrue};
-ghost use Rattle.mq_end.specs.Sizes.{identifier_size};
-ghost use Rattle.mq_hub.specs.Inside.Invariant.{IsWillWithin, IsWithin};
+ghost use Rattle.mq_hub.specs.Prelude.{identifier_size, IsWillWithin, IsWithin};
 
 use mq_decode::Limits;
 use mq_packet::{Message, Will};

@@ -1,9 +1,7 @@
 //! Loading a broker (3.1.2.4, 4.1).
 
 ghost use Rattle.std.specs.Prelude.{◌≡◌, ◌<◌, [], IfOk, IfSome, OnOk};
-ghost use Rattle.mq_route.specs.Hub.{new_hub};
-ghost use Rattle.mq_route.specs.Snapshot.{quiet, snapshot, IsKeptWhole, IsStorable};
-ghost use Rattle.mq_hub.specs.Inside.Loading.{HaveNoOutput};
+ghost use Rattle.mq_hub.specs.Prelude.{new_hub, quiet, snapshot, IsKeptWhole, IsStorable, HaveNoOutput};
 
 use crate::hub::HubOver;
 use mq_route::HubConfig;

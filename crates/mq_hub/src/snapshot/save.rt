@@ -1,7 +1,7 @@
 //! Saving a broker (3.1.2.4, 4.1).
 
 ghost use Rattle.std.specs.Prelude.{◌≡◌, ◌++◌, IfOk, OnOk};
-ghost use Rattle.mq_route.specs.Snapshot.{quiet, restored, snapshot, IsStorable};
+ghost use Rattle.mq_hub.specs.Prelude.{quiet, restored, snapshot, IsStorable};
 
 use crate::hub::HubOver;
 use mq_snapshot::{put_eight, put_rows, put_signature};

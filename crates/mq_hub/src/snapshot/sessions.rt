@@ -1,7 +1,7 @@
 //! Loading sessions (3.1.2.4).
 
 ghost use Rattle.std.specs.Prelude.{◌≡◌, ◌<◌, [], true};
-ghost use Rattle.mq_end.specs.End.{resumed};
+ghost use Rattle.mq_hub.specs.Prelude.{resumed};
 
 use crate::hub::HubOver;
 use mq_snapshot::{SavedSession, SnapshotFault, read_eight, read_session};

@@ -1,17 +1,7 @@
 //! Delivers the message of a will (3.1.2.5, 3.3.1.3, 3.3.5).
 
 ghost use Rattle.std.specs.Prelude.{◌≡◌, ◌≤◌, ℕ, [], ◌∷◌, true, false, IfOk, OnErr, Ok};
-ghost use Rattle.mq_end.specs.Sizes.{publish_size};
-ghost use Rattle.mq_route.specs.declared.config.HubConfig.{HubConfig};
-ghost use Rattle.mq_route.specs.Hub.{copies_of};
-ghost use Rattle.mq_route.specs.Work.{have_room, deliver};
-ghost use Rattle.mq_tables.specs.Rules.{rules_of};
-ghost use Rattle.mq_hub.specs.Inside.Refinement.{Refines};
-ghost use Rattle.mq_hub.specs.Inside.Invariant.{HubInvariant};
-ghost use Rattle.mq_hub.specs.Inside.TableSteps.{AreHubTables, Spares};
-ghost use Rattle.mq_hub.specs.Inside.ConnectRoom.{KeepsConnectRoom};
-ghost use Rattle.mq_hub.specs.Inside.View.{hub_of};
-ghost use Rattle.mq_hub.specs.Inside.DeliveryPlan.{AreTablesAlike};
+ghost use Rattle.mq_hub.specs.Prelude.{publish_size, HubConfig, copies_of, have_room, deliver, rules_of, Refines, HubInvariant, AreHubTables, Spares, KeepsConnectRoom, hub_of, AreTablesAlike};
 
 use crate::acts::ActLog;
 use crate::publish::reserve::{deliver, plan_delivery, reserve_delivery};

@@ -1,18 +1,7 @@
 //! Publishes the will of a client, or reports it as dropped (3.1.2.5).
 
 ghost use Rattle.std.specs.Prelude.{◌≡◌, ◌+◌, ◌≤◌, ◌<◌, ◌&&◌, ℕ, Bool, true, false, Some, Ok, IfOk, OnErr};
-ghost use Rattle.mq_end.specs.Sizes.{publish_size};
-ghost use Rattle.mq_route.specs.declared.config.HubConfig.{HubConfig};
-ghost use Rattle.mq_route.specs.Copies.{will_message};
-ghost use Rattle.mq_route.specs.Hub.{copies_of};
-ghost use Rattle.mq_route.specs.Work.{have_room, last_will, deliver};
-ghost use Rattle.mq_tables.specs.Rules.{rules_of};
-ghost use Rattle.mq_hub.specs.Inside.Refinement.{Refines};
-ghost use Rattle.mq_hub.specs.Inside.Invariant.{HubInvariant, IsWillWithin};
-ghost use Rattle.mq_hub.specs.Inside.TableSteps.{AreHubTables, Spares};
-ghost use Rattle.mq_hub.specs.Inside.ConnectRoom.{will_messages, KeepsConnectRoom};
-ghost use Rattle.mq_hub.specs.Inside.View.{hub_of};
-ghost use Rattle.mq_hub.specs.Inside.DeliveryPlan.{AreTablesAlike};
+ghost use Rattle.mq_hub.specs.Prelude.{publish_size, HubConfig, will_message, copies_of, have_room, last_will, deliver, rules_of, Refines, HubInvariant, IsWillWithin, AreHubTables, Spares, will_messages, KeepsConnectRoom, hub_of, AreTablesAlike};
 
 use crate::acts::ActLog;
 use crate::will::delivery::try_deliver;

@@ -1,9 +1,7 @@
 //! Reads of a round.
 
 ghost use Rattle.std.specs.Prelude.{◌≡◌, [], false, true};
-ghost use Rattle.mq_loop.specs.Calls.{ReadsOf, age_at};
-ghost use Rattle.mq_loop.specs.Inside.Turns.{IsOldestFirst};
-ghost use Rattle.mq_loop.specs.Rounds.{kept_at};
+ghost use Rattle.mq_loop.specs.Prelude.{ReadsOf, age_at, IsOldestFirst, kept_at};
 
 use crate::broker::Broker;
 use crate::event_loop::EventLoop;

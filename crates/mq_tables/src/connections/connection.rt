@@ -1,12 +1,7 @@
 //! One connection (4.2).
 
 ghost use Rattle.std.specs.Prelude.{◌≡◌, ◌≤◌, ℕ, [], Option, None, false, IfOk, IsFalse, OnOk, OnErr};
-ghost use Rattle.mq_route.specs.Arrives.{touched};
-ghost use Rattle.mq_route.specs.Hub.{key_on};
-ghost use Rattle.mq_route.specs.Step.{has_passed};
-ghost use Rattle.mq_end.specs.KeepAlive.{is_late};
-ghost use Rattle.mq_tables.specs.Alarms.{is_late_on};
-ghost use Rattle.mq_tables.specs.Connections.{connection_of, IsReading, IsTimely};
+ghost use Rattle.mq_tables.specs.Prelude.{touched, key_on, has_passed, is_late, is_late_on, connection_of, IsReading, IsTimely};
 
 use bytes::Bytes;
 use mq_decode::{Decoder, Limits};

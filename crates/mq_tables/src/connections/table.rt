@@ -1,19 +1,8 @@
 //! The table of connections (4.2).
 
 ghost use Rattle.std.specs.Prelude.{◌≡◌, ◌+◌, ◌*◌, ◌≤◌, ◌<◌, ℕ, [], ◌∷◌, ◌++◌, length, map, slice_get, Some, None, nat_eq, true, false, is_some, if◌then◌else◌, OnOk, OnErr, IfNone, IfOk, IfSome};
-ghost use Rattle.std.specs.HashMap.{get, hash_map_len, spare};
-ghost use Rattle.std.specs.List.{AllByRecursion, IsDistinct};
-ghost use Rattle.std.specs.List.Sorted.{IsNonDecreasing};
-ghost use Rattle.std.specs.Map.{keys_of, lookup, remove_entry};
-ghost use Rattle.std.specs.Option.{option_copied, option_map};
-ghost use Rattle.mq_route.specs.Arrives.{touched};
-ghost use Rattle.mq_route.specs.Hub.{held_on, key_on, knows, stage_of, up_on, waiting_on, with_connection, without_connection};
-ghost use Rattle.mq_route.specs.Routed.{same_conn};
-ghost use Rattle.mq_route.specs.Snapshot.{listed, saved_connection};
-ghost use Rattle.mq_route.specs.Welcome.{up_count};
-ghost use Rattle.mq_tables.specs.Alarms.{AreAwaited, AreAwaitedBut, IsAwaited, RingsWith};
-ghost use Rattle.mq_tables.specs.Connections.{connection_of, connections_of, IsDecoding, IsNamedAt, IsReading};
-ghost use Rattle.mq_tables.specs.Late.{AreInTime, HasLate, HasLateNamed};
+ghost use Rattle.mq_tables.specs.Prelude.{get, hash_map_len, AllByRecursion, IsDistinct, IsNonDecreasing, keys_of, lookup, remove_entry, option_copied, option_map, touched, held_on, key_on, knows, stage_of, up_on, waiting_on, with_connection, without_connection, same_conn, listed, saved_connection, up_count, AreAwaited, AreAwaitedBut, IsAwaited, RingsWith, connection_of, connections_of, IsDecoding, IsNamedAt, IsReading, AreInTime, HasLate, HasLateNamed};
+ghost use Rattle.std.specs.HashMap.{spare};
 
 use crate::alarms::Alarms;
 use crate::connections::connection::{BoxedConnection, Connection};

@@ -1,10 +1,7 @@
 //! Calls of a broker to the end of a session.
 
 ghost use Rattle.std.specs.Prelude.{◌≡◌, true, Ok, OnOk, OnErr, IsErr};
-ghost use Rattle.mq_end.specs.End.{is_up};
-ghost use Rattle.mq_packet.specs.Publication.{fits_delivery};
-ghost use Rattle.mq_end.specs.Receiving.{no_outcome, told_of};
-ghost use Rattle.mq_tables.specs.Calls.{IsAllowed, Serves, publish_call};
+ghost use Rattle.mq_tables.specs.Prelude.{is_up, fits_delivery, no_outcome, told_of, IsAllowed, Serves, publish_call};
 
 use mq_end::{PacketOutcome, PublishOutcome, PublishRefusal, ServerEnd, size_laws};
 use mq_packet::{Delivery, Message, NonEmpty, Packet, PacketId, SubAckCode, encoding_laws};

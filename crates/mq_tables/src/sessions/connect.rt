@@ -1,11 +1,7 @@
 //! The end of a session processes a CONNECT (3.1.4, 3.2).
 
 ghost use Rattle.std.specs.Prelude.{◌≡◌, ◌<◌, [], OnOk, OnErr, IsSome};
-ghost use Rattle.mq_end.specs.Ready.{HasRise};
-ghost use Rattle.mq_end.specs.State.{Room};
-ghost use Rattle.mq_route.specs.Arrives.{resume_session};
-ghost use Rattle.mq_tables.specs.Connecting.{connected_end, roomed, HasConnected, IsRoomed};
-ghost use Rattle.mq_tables.specs.Sessions.{session_at};
+ghost use Rattle.mq_tables.specs.Prelude.{HasRise, Room, resume_session, connected_end, roomed, HasConnected, IsRoomed, session_at};
 
 use crate::sessions::table::Sessions;
 use mq_end::ServerEnd;

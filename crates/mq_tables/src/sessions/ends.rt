@@ -1,15 +1,7 @@
 //! Calls to the ends of the sessions in the table.
 
 ghost use Rattle.std.specs.Prelude.{◌≡◌, ◌-◌, ◌<◌, ℕ, List, [], ◌∷◌, true, OnOk, OnErr, IsSome, IfSome};
-ghost use Rattle.mq_packet.specs.declared.connect.Connect.{Connect};
-ghost use Rattle.mq_packet.specs.declared.message.Message.{Message};
-ghost use Rattle.mq_packet.specs.Publication.{fits_delivery};
-ghost use Rattle.mq_end.specs.Receiving.{told_of};
-ghost use Rattle.mq_tables.specs.Calls.{CanServe, ServesAt, publish_call};
-ghost use Rattle.mq_tables.specs.Output.{CollectsAt};
-ghost use Rattle.mq_tables.specs.Connecting.{left, connected_end, HasConnectRoomAt, IsEnlarged};
-ghost use Rattle.mq_tables.specs.Publishing.{placed_at, AreSameButRoom, AreStillReady, IsReadyAt, ReadiesAt};
-ghost use Rattle.mq_tables.specs.Sessions.{session_at, with_server, AreAscending};
+ghost use Rattle.mq_tables.specs.Prelude.{Connect, Message, fits_delivery, told_of, CanServe, ServesAt, publish_call, CollectsAt, left, connected_end, HasConnectRoomAt, IsEnlarged, placed_at, AreSameButRoom, AreStillReady, IsReadyAt, ReadiesAt, session_at, with_server, AreAscending};
 
 use crate::sessions::call::Call;
 use crate::sessions::session::BoxedSession;

@@ -1,20 +1,7 @@
 //! One session.
 
 ghost use Rattle.std.specs.Prelude.{◌≡◌, ◌&&◌, ℕ, List, [], ◌∷◌, length, nat_le, true, IfOk, IfSome, OnOk};
-ghost use Rattle.std.specs.List.{AllByRecursion};
-ghost use Rattle.mq_end.specs.End.{is_up};
-ghost use Rattle.mq_end.specs.Ready.{HasRise, HasRoom};
-ghost use Rattle.mq_packet.specs.declared.connect.Connect.{Connect};
-ghost use Rattle.mq_packet.specs.declared.message.Message.{Message};
-ghost use Rattle.mq_packet.specs.Publication.{fits_delivery};
-ghost use Rattle.mq_flow.specs.Sender.{IsFirstFree};
-ghost use Rattle.mq_end.specs.Receiving.{told_of};
-ghost use Rattle.mq_tables.specs.Calls.{IsAllowed, Serves, publish_call};
-ghost use Rattle.mq_tables.specs.Numbers.{stored_at};
-ghost use Rattle.mq_tables.specs.Output.{Collects};
-ghost use Rattle.mq_tables.specs.Connecting.{parted, left, connected_end};
-ghost use Rattle.mq_tables.specs.Publishing.{published, IsReady, MayGo, Readies};
-ghost use Rattle.mq_tables.specs.Rules.{bytes_of, count_of, fits_left, free_of, has_room};
+ghost use Rattle.mq_tables.specs.Prelude.{AllByRecursion, is_up, HasRise, HasRoom, Connect, Message, fits_delivery, IsFirstFree, told_of, IsAllowed, Serves, publish_call, stored_at, Collects, parted, left, connected_end, published, IsReady, MayGo, Readies, bytes_of, count_of, fits_left, free_of, has_room};
 
 use crate::sessions::call::{Call, serve, take_publish};
 use crate::sessions::connect::connect_end;

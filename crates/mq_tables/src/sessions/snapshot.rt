@@ -1,10 +1,7 @@
 //! Saving sessions, and continuing those that were loaded (3.1.2.4, 4.1).
 
 ghost use Rattle.std.specs.Prelude.{◌≡◌, ◌++◌, true, All, OnOk, ◌<◌, None, IfSome, IsSome, false, IsTrue};
-ghost use Rattle.mq_end.specs.End.{is_live};
-ghost use Rattle.mq_route.specs.Snapshot.{listed, saved_session, HasIdentifiers};
-ghost use Rattle.mq_tables.specs.Sessions.{session_of, sessions_of, session_at, AreAscending, AreBelow};
-ghost use Rattle.mq_tables.specs.Connecting.{HasContinued};
+ghost use Rattle.mq_tables.specs.Prelude.{is_live, listed, saved_session, HasIdentifiers, session_of, sessions_of, session_at, AreAscending, AreBelow, HasContinued};
 
 use crate::sessions::session::{BoxedSession, BrokerSession};
 use crate::sessions::table::Sessions;

@@ -1,18 +1,8 @@
 //! The table of sessions (3.1.2.4, 3.1.3.1).
 
 ghost use Rattle.std.specs.Prelude.{◌≡◌, ◌+◌, ◌-◌, ◌^◌, ◌≤◌, ◌<◌, ℕ, List, [], ◌∷◌, ◌++◌, true, Some, None, length, map, min, nat_lt, slice_get, vec_capacity, if◌then◌else◌, OnOk, IfOk, IsSome, IfSome};
-ghost use Rattle.std.specs.HashMap.{get, spare};
-ghost use Rattle.std.specs.List.{AllByRecursion, prefix_len};
-ghost use Rattle.std.specs.Str.{bytes_eq};
-ghost use Rattle.std.specs.Option.{option_copied};
-ghost use Rattle.mq_flow.specs.Sender.{IsFirstFree};
-ghost use Rattle.mq_route.specs.Hub.{key_of};
-ghost use Rattle.mq_tables.specs.Numbers.{all_stored};
-ghost use Rattle.mq_tables.specs.Output.{output_of};
-ghost use Rattle.mq_tables.specs.Connecting.{parted};
-ghost use Rattle.mq_tables.specs.Publishing.{MayGo};
-ghost use Rattle.mq_tables.specs.Rules.{has_room, left_of, space_of};
-ghost use Rattle.mq_tables.specs.Sessions.{marked_at, sessions_of, session_at, with_server, without_key, AreBelow, AreAscending};
+ghost use Rattle.mq_tables.specs.Prelude.{get, AllByRecursion, prefix_len, bytes_eq, option_copied, IsFirstFree, key_of, all_stored, output_of, parted, MayGo, has_room, left_of, space_of, marked_at, sessions_of, session_at, with_server, without_key, AreBelow, AreAscending};
+ghost use Rattle.std.specs.HashMap.{spare};
 
 use crate::rules::CopyRules;
 use crate::sessions::session::{BoxedSession, BrokerSession, has_room, next_id, stored_of};

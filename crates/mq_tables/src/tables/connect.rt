@@ -1,14 +1,7 @@
 //! The tables when a client connects, or leaves (3.1, 3.1.2.4).
 
 ghost use Rattle.std.specs.Prelude.{◌≡◌, ◌≤◌, ℕ, List, Some, None, [], ◌∷◌, ◌++◌, true, OnOk, OnErr, IfOk, IsSome, IfSome, ◌+◌, ◌<◌, ◌^◌, not};
-ghost use Rattle.mq_packet.specs.declared.connect.Connect.{Connect};
-ghost use Rattle.mq_packet.specs.declared.message.Message.{Message};
-ghost use Rattle.mq_route.specs.Hub.{key_of, key_on, knows, stage_of, with_connection, up_on};
-ghost use Rattle.mq_route.specs.Arrives.{resume_session};
-ghost use Rattle.mq_tables.specs.Connections.{left_with};
-ghost use Rattle.mq_tables.specs.Sessions.{sessions_of, session_at, with_server, AreBelow};
-ghost use Rattle.mq_tables.specs.Connecting.{HasConnected, IsRoomed, left, HasConnectRoomAt};
-ghost use Rattle.mq_tables.specs.Publishing.{AreSameButRoom, AreStillReady};
+ghost use Rattle.mq_tables.specs.Prelude.{Connect, Message, key_of, key_on, knows, stage_of, with_connection, up_on, resume_session, left_with, sessions_of, session_at, with_server, AreBelow, HasConnected, IsRoomed, left, HasConnectRoomAt, AreSameButRoom, AreStillReady};
 
 use crate::sessions::session::BoxedSession;
 use crate::tables::Tables;

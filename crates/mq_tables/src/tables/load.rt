@@ -1,13 +1,7 @@
 //! Loading connections, sessions, subscriptions and retained messages (4.1).
 
 ghost use Rattle.std.specs.Prelude.{◌≡◌, None, [], ◌∷◌, ◌++◌, false, OnOk, OnErr, IsSome, IfSome, ◌<◌, IsTrue};
-ghost use Rattle.mq_topic.specs.Rows.{with_row};
-ghost use Rattle.mq_end.specs.End.{is_live};
-ghost use Rattle.mq_route.specs.Hub.{key_of, stage_of, with_connection, up_on};
-ghost use Rattle.mq_route.specs.Copies.{kept};
-ghost use Rattle.mq_tables.specs.Sessions.{sessions_of, session_at, AreAscending, AreBelow};
-ghost use Rattle.mq_tables.specs.Connecting.{HasContinued};
-ghost use Rattle.mq_tables.specs.Connections.{connected_for};
+ghost use Rattle.mq_tables.specs.Prelude.{with_row, is_live, key_of, stage_of, with_connection, up_on, kept, sessions_of, session_at, AreAscending, AreBelow, HasContinued, connected_for};
 
 use crate::sessions::session::BoxedSession;
 use crate::tables::Tables;

@@ -1,0 +1,19 @@
+-- What the source files of this crate cite. It declares nothing itself.
+pub use Rattle.mq_log.specs.Blocks.{at_rest, gate, rest}
+pub use Rattle.mq_log.specs.Disk.{LeavesOnly, Only}
+pub use Rattle.mq_log.specs.Journal.{IsSettled}
+pub use Rattle.mq_log.specs.declared.reader.Tail.TheVariants.{Closed, Torn}
+pub use Rattle.mq_record.specs.Encoding.{is_recorded, event_bytes}
+pub use Rattle.mq_record.specs.Reading.{IsEntry}
+pub use Rattle.mq_route.specs.Step.{HubStep}
+pub use Rattle.mq_route.specs.StepSome.{HubStepSome}
+pub use Rattle.mq_route.specs.declared.conn.Conn.{Conn}
+pub use Rattle.mq_route.specs.declared.event.HubEvent.TheVariants.{Bytes, Collect}
+pub use Rattle.mq_durable.specs.Calls.{Collected, Committed, Continued, MakesCall, Stepped, DurableLaws}
+pub use Rattle.mq_durable.specs.Determined.{ReplayLaws}
+pub use Rattle.mq_durable.specs.Memory.{is_for_memory, is_memory, lacks_memory, reports_memory}
+pub use Rattle.mq_durable.specs.Recorded.{AfterCrash, HoldsAllOrNone, events_of, AreReadable, events_in, events_in_all, IsReadable}
+pub use Rattle.mq_durable.specs.Recovering.{Continues, opened_by, AreKnownAmong, HasEnded, latest}
+pub use Rattle.mq_durable.specs.Replaying.{Replays}
+pub use Rattle.mq_durable.specs.State.{FollowsJournal, IsCommitRefused, IsStepRefused, after_failure, after_step, reply_in, IsNotNoted, IsNotStepped, after_refusal, after_sound_step}
+pub use Rattle.mq_durable.specs.declared.condition.Condition.TheVariants.{Sound, Broken}
