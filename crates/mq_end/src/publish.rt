@@ -43,29 +43,6 @@ impl Endpoint {
         None
     }
 
-    /// Sends the first PUBLISH of a message if the end is connected; as this block if one is given.
-    fn send(
-        &mut self,
-        id: PacketId,
-        message: &Message,
-        block: Option<Block>,
-    ) -> Result<(), AllocError>
-        requires kept { message.now.qos ≡ Q0 → ⊥ }
-        requires encoded { IfSome block
-            (λ b. Encodes (packets.Publish (record { message = message.now; delivery = Some (record { id = id; dup = false }) })) b) }
-        ensures ok { OnOk result (PutsOut (publishes id message.now self.old.end).out self.old.output self.new.output) }
-        ensures state { self.new ≡ record self.old { output = self.new.output } }
-        ensures within { publish_size message.now < 2 ^ 28
-            → length self.old.output + size_at_once self.old.end.state (message.now ∷ []) ≤ self.old.room.bytes → IsOk result }
-        ensures err { OnErr result (self.new ≡ self.old) }
-    {
-        if self.state != State::Connected {
-            return Ok(());
-        }
-        let delivery = Delivery { id, dup: false };
-        self.output.append_encoded(message, Some(delivery), block)
-    }
-
     /// Stores a message of quality of service 1 or 2, and sends it if the end is connected (4.3.2,
     /// 4.3.3).
     fn keep(&mut self, message: PreparedMessage) -> Result<Option<PacketId>, AllocError>
@@ -78,8 +55,13 @@ impl Endpoint {
         let id = self.session.sender.next_id().unwrap();
         let is_up = self.state == State::Connected;
         let before = self.output.len();
-        let (message, block) = message.into_parts(Some(Delivery { id, dup: false }));
-        self.send(id, &message, block)?;
+        let delivery = Delivery { id, dup: false };
+        let (message, block) = message.into_parts(Some(delivery));
+        if is_up {
+            self.output.append_encoded(&message, Some(delivery), block)?;
+        } else {
+            drop(block);
+        }
         match self.session.sender.accept_as(id, message, is_up) {
             Ok(()) => Ok(Some(id)),
             Err(error) => {

@@ -3,6 +3,7 @@
 ghost use Rattle.std.specs.Prelude.{◌≡◌, ◌<◌, length, None, Err, IfOk, IfErr, IfSome, OnErr};
 ghost use Rattle.mq_hub.specs.Prelude.{HubStep, event_refusal, HubStepSome};
 
+use crate::acts::ActLog;
 use crate::hub::HubOver;
 use mq_route::{Conn, HubEvent, HubRefusal, HubReply};
 use mq_topic::FilterStore;
@@ -35,10 +36,11 @@ impl<S: FilterStore> HubOver<S> {
         }
     }
 
-    /// Handles the front of the bytes that come on a connection, up to the packet with which the
-    /// step reaches `most_acts` acts, or all of them. Returns the reply and the number of bytes
+    /// Handles the front of the bytes that come on a connection (4.2), up to the packet with which
+    /// the step reaches `most_acts` acts, or all of them. Returns the reply and the number of bytes
     /// used; the caller passes the others in a later call. At least one packet is handled, and at
-    /// least one byte is used of a piece that is not empty. The piece is not copied.
+    /// least one byte is used of a piece that is not empty. The piece is not copied. Bytes of a
+    /// closed connection are dropped.
     ///
     /// Errors as [`HubOver::step`] with `Bytes`.
     pub fn step_some(
@@ -49,6 +51,7 @@ impl<S: FilterStore> HubOver<S> {
     ) -> Result<(HubReply, usize), HubRefusal>
         ensures step { IfOk result (λ r. HubStepSome self.old conn piece.now most_acts r.0 r.1 self.new) }
         ensures some { IfOk result (λ r. 0 < length piece.now → 0 < r.1) }
+        ensures few { IfOk result (λ r. length r.0.acts < 18446744073709551615) }
         ensures refused { IfSome (event_refusal (HubEvent.Bytes conn piece.now) self.old) (λ why. result ≡ Err why) }
         ensures memory { event_refusal (HubEvent.Bytes conn piece.now) self.old ≡ None → IfErr result (λ why. why ≡ HubRefusal.Memory) }
         ensures err { OnErr result (self.new ≡ self.old) }
@@ -56,6 +59,12 @@ impl<S: FilterStore> HubOver<S> {
         if !self.knows(conn) {
             return Err(HubRefusal::UnknownConn);
         }
-        self.on_some_bytes(conn, piece, most_acts)
+        let mut log = ActLog::new(self.alloc);
+        if log.reserve(3).is_err() {
+            return Err(HubRefusal::Memory);
+        }
+        let mut decoder = self.take_decoder(conn);
+        let used = self.on_piece(conn, &mut decoder, piece, most_acts, &mut log);
+        Ok((log.into_reply(self.is_open(conn)), used))
     }
 }

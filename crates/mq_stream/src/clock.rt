@@ -1,8 +1,9 @@
 //! Clocks.
 
-ghost use Rattle.std.specs.Prelude.{List, ℕ, Option, None, ◌∷◌, []};
+ghost use Rattle.std.specs.Prelude.{◌≡◌, List, ℕ, Option, None, ◌∷◌, []};
 ghost use Rattle.std.specs.Io.KnownBytes.{Appends};
 
+use std::marker::Model;
 use std::time;
 use std::time::Instant;
 
@@ -17,6 +18,7 @@ pub trait Clock {
 }
 
 /// The time since an instant. If the system clock fails, the last known time is reported again.
+/// Contracts see that time, in milliseconds.
 #[derive(Drop)]
 pub struct Elapsed<'a, T: time::Clock> {
     clock: &'a T,
@@ -24,9 +26,19 @@ pub struct Elapsed<'a, T: time::Clock> {
     last: u64,
 }
 
+impl<T: time::Clock> Model for Elapsed<'_, T> {
+    ghost use Rattle.std.specs.Prelude.{ℕ};
+
+    ghost Value = { ℕ };
+
+    ghost view = { λ e. e.last };
+}
+
 impl<'a, T: time::Clock> Elapsed<'a, T> {
-    /// The time since `start`, by `clock`.
-    pub fn since(clock: &'a T, start: Instant) -> Elapsed<'a, T> {
+    /// The time since `start`, by `clock`. Until the first reading it is 0.
+    pub fn since(clock: &'a T, start: Instant) -> Elapsed<'a, T>
+        ensures { result ≡ 0 }
+    {
         Elapsed {
             clock,
             start,

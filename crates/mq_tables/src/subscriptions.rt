@@ -36,7 +36,7 @@ fn put_all_back<S: FilterStore>(store: &mut S, key: ClientKey, befores: Vec<Befo
     }
 }
 
-// Sets the subscription of a request, and records what it was before.
+// Sets the subscription of a request, and records its quality of service before.
 fn set_row<S: FilterStore>(
     store: &mut S,
     key: ClientKey,

@@ -22,9 +22,13 @@ use std::marker::Model;
 /// The tables of a broker: its subscriptions, retained messages, sessions and connections.
 #[derive(Drop)]
 pub struct Tables<S: FilterStore> {
+    /// The subscriptions of all sessions (3.8).
     pub store: S,
+    /// The retained messages (3.3.1.3).
     pub retained: Retained,
+    /// The sessions, connected or not (3.1.2.4).
     pub sessions: Sessions,
+    /// The open connections (4.2).
     pub connections: Connections,
 }
 

@@ -54,10 +54,10 @@ impl<S: FilterStore> HubOver<S> {
         }
     }
 
-    // Handles the packets of a piece one after another, until the connection closes or the step has
-    // `most_acts` acts. Returns the number of bytes used. The decoder holds the incomplete packet
-    // at the end; it holds nothing once the connection is closed (4.2, 4.8).
-    fn on_piece(
+    /// Handles the packets of a piece one after another, until the connection closes or the step
+    /// has `most_acts` acts. Returns the number of bytes used. The decoder holds the incomplete
+    /// packet at the end; it holds nothing once the connection is closed (4.2, 4.8).
+    pub(crate) fn on_piece(
         &mut self,
         conn: Conn,
         decoder: &mut Decoder,
@@ -93,8 +93,8 @@ impl<S: FilterStore> HubOver<S> {
         piece.len()
     }
 
-    // Takes the decoder out of a connection and leaves an empty one in its place.
-    fn take_decoder(&mut self, conn: Conn) -> Decoder
+    /// Takes the decoder out of a connection and leaves an empty one in its place.
+    pub(crate) fn take_decoder(&mut self, conn: Conn) -> Decoder
         requires { knows conn self.old.connections ≡ true }
         ensures hub { self.new ≡ with_held conn [] self.old }
         ensures held { result.held ≡ held_on conn self.old.connections }
@@ -105,40 +105,14 @@ impl<S: FilterStore> HubOver<S> {
         decoder
     }
 
-    /// Handles the bytes that come on a connection (4.2): its whole packets one after another,
-    /// until it closes or the step has `most_acts` acts. Returns the reply and the number of bytes
-    /// used. The connection holds the incomplete packet at the end. Bytes of a closed connection
-    /// are dropped.
-    pub(crate) fn on_some_bytes(
-        &mut self,
-        conn: Conn,
-        piece: &[u8],
-        most_acts: usize,
-    ) -> Result<(HubReply, usize), HubRefusal>
-        requires { knows conn self.old.connections ≡ true }
-        ensures step { IfOk result (λ r. HubStepSome self.old conn piece.now most_acts r.0 r.1 self.new) }
-        ensures some { IfOk result (λ r. 0 < length piece.now → 0 < r.1) }
-        ensures few { IfOk result (λ r. length r.0.acts < 18446744073709551615) }
-        ensures memory { IfErr result (λ why. why ≡ HubRefusal.Memory) }
-        ensures err { OnErr result (self.new ≡ self.old) }
-    {
-        let mut log = ActLog::new(self.alloc);
-        if log.reserve(3).is_err() {
-            return Err(HubRefusal::Memory);
-        }
-        let mut decoder = self.take_decoder(conn);
-        let used = self.on_piece(conn, &mut decoder, piece, most_acts, &mut log);
-        Ok((log.into_reply(self.is_open(conn)), used))
-    }
-
-    /// Handles all bytes that come on a connection (4.2), as [`HubOver::on_some_bytes`].
+    /// Handles all bytes that come on a connection (4.2), as [`HubOver::step_some`].
     pub(crate) fn on_bytes(&mut self, conn: Conn, piece: &[u8]) -> Result<HubReply, HubRefusal>
         requires { knows conn self.old.connections ≡ true }
         ensures step { IfOk result (λ reply. HubStep self.old (HubEvent.Bytes conn piece.now) reply self.new) }
         ensures memory { IfErr result (λ why. why ≡ HubRefusal.Memory) }
         ensures err { OnErr result (self.new ≡ self.old) }
     {
-        let (reply, _) = self.on_some_bytes(conn, piece, usize::MAX)?;
+        let (reply, _) = self.step_some(conn, piece, usize::MAX)?;
         Ok(reply)
     }
 }

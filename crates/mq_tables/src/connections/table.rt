@@ -1,6 +1,6 @@
 //! The table of connections (4.2).
 
-ghost use Rattle.std.specs.Prelude.{◌≡◌, ◌+◌, ◌*◌, ◌≤◌, ◌<◌, ℕ, [], ◌∷◌, ◌++◌, length, map, slice_get, Some, None, nat_eq, true, false, is_some, if◌then◌else◌, OnOk, OnErr, IfNone, IfOk, IfSome};
+ghost use Rattle.std.specs.Prelude.{◌≡◌, ◌⊎◌, ◌+◌, ◌*◌, ◌≤◌, ◌<◌, ℕ, [], ◌∷◌, ◌++◌, length, map, slice_get, Some, None, nat_eq, true, false, is_some, if◌then◌else◌, OnOk, OnErr, IfNone, IfOk, IfSome};
 ghost use Rattle.mq_tables.specs.Prelude.{get, hash_map_len, AllByRecursion, IsDistinct, IsNonDecreasing, keys_of, lookup, remove_entry, option_copied, option_map, touched, held_on, key_on, knows, stage_of, up_on, waiting_on, with_connection, without_connection, same_conn, listed, saved_connection, up_count, AreAwaited, AreAwaitedBut, IsAwaited, RingsWith, connection_of, connections_of, IsDecoding, IsNamedAt, IsReading, AreInTime, HasLate, HasLateNamed};
 ghost use Rattle.std.specs.HashMap.{spare};
 
@@ -295,7 +295,9 @@ impl Connections {
 
     /// Returns the index of a connection, or 0 if it is unknown. It is a hint for the calls that
     /// take an index, which return the same for any other one.
-    pub fn place_of(&self, conn: Conn) -> usize {
+    pub fn place_of(&self, conn: Conn) -> usize
+        ensures { (result ≡ 0) ⊎ (result < length self.now.connections) }
+    {
         self.by_conn.get_index_of(&conn).unwrap_or(0)
     }
 

@@ -1,7 +1,7 @@
 use Rattle.std.proofs.Common.{◌∙◌, [], ap}
 use Rattle.mq_route.specs.Hub.{HubState}
 use Rattle.mq_hub.proofs.InputBytes.{some_received}
-use Rattle.mq_hub.proofs.hub.HubOver.on_some_bytes.Goals as goal
+use Rattle.mq_hub.proofs.hub.HubOver.step_some.Goals as goal
 
 pub returns-clause-step : goal.returns-clause-step
 returns-clause-step g c =
