@@ -17,9 +17,9 @@ use Rattle.mq_route.specs.Step.{event_refusal}
 abbrev pub acts_in : HubTrace → List Act
 acts_in trace = flat_map (λ r. r.acts) trace.replies
 
--- From any time in a run, until a connection ends: the bytes that were collected from it and its
--- pending output are the output that was pending, and the encodings of the packets that were sent on
--- it, in order (4.6).
+-- From any time in a run, until a connection ends: the bytes that were collected from it, and then
+-- its pending output, are the output that was pending at that time, and then the encodings of the
+-- packets that were sent on it (4.6).
 abbrev pub AreCollected : HubConfig → List Episode → HubState → Type 0
 AreCollected config episodes last =
     (before after : List Episode) (hub : HubState) → before ++ after ≡ episodes
