@@ -21,8 +21,8 @@ will_with (Some qos) retain = Some (Some (record { qos = qos; retain = retain })
 abbrev pub will_from : ℕ → Option (Option WillFlags)
 will_from byte = if byte / 4 % 2 == 1 then will_with (qos_from (byte / 8 % 4)) (byte / 32 % 2 == 1) else (if byte / 8 % 8 == 0 then Some None else None)
 
--- the bits of the user name and the password: without bit 7 bit 6 is not set; `Some` contains whether
--- there is a password
+-- the bits of the user name and the password: without bit 7 bit 6 is not set; `Some` contains
+-- whether there is a password
 abbrev pub login_from : ℕ → Option (Option Bool)
 login_from byte = if byte / 128 == 1 then Some (Some (byte / 64 % 2 == 1)) else (if byte / 64 % 2 == 0 then Some None else None)
 

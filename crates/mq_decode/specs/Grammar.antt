@@ -135,7 +135,8 @@ pub record Begins (limits : Bounds) (buffer : List ℕ) (packets : List Packet) 
   pub parts : buffer ≡ front ++ rest
   pub left : 0 < length rest
 
--- `new` is `old` with packets, and `buffer` is a stream of these, followed by a rest that is pending.
+-- `new` is `old` with packets, and `buffer` is a stream of these, followed by a rest that is
+-- pending.
 abbrev pub Goes : Bounds → List ℕ → List Packet → List Packet → List ℕ → Type 0
 Goes limits buffer old new rest = (packets : List Packet) × (new ≡ old ++ packets) × Reading limits buffer packets rest None
 
