@@ -64,7 +64,8 @@ pub trait Disk {
     fn read(&mut self, alloc: Global) -> Result<Vec<u8>, DiskError>
         ensures bytes { IfOk result (λ bytes. bytes.items ≡ seen self.old) }
         ensures seen { seen self.new ≡ seen self.old }
-        ensures crash { (content : List ℕ) → may_leave self.new content → may_leave self.old content }
+        ensures crash { (content : List ℕ)
+            → may_leave self.new content → may_leave self.old content }
         ensures time { Elapses (clock self.old) (clock self.new)
             (left_since self.old) (left_since self.new) (may_leave self.new) }
         ensures cause { HasCause (faults self.old) (faults self.new) result };
@@ -83,7 +84,8 @@ pub trait Disk {
     fn sync(&mut self) -> Result<(), DiskError>
         ensures durable { OnOk result (Only (seen self.old) (may_leave self.new)) }
         ensures seen { seen self.new ≡ seen self.old }
-        ensures crash { (content : List ℕ) → may_leave self.new content → may_leave self.old content }
+        ensures crash { (content : List ℕ)
+            → may_leave self.new content → may_leave self.old content }
         ensures time { Elapses (clock self.old) (clock self.new)
             (left_since self.old) (left_since self.new) (may_leave self.new) }
         ensures cause { HasCause (faults self.old) (faults self.new) result };
