@@ -1,4 +1,4 @@
-//! The packets of a message's flow, which both ends take in alike (4.3).
+//! The packets of a message's flow, which both ends process alike (4.3).
 
 ghost use Rattle.std.specs.Prelude.{◌≡◌, true, false, IsOk, IfOk, OnOk, OnErr, Some};
 ghost use Rattle.mq_end.specs.Prelude.{Q1, Q2, fits_delivery, on_pubrel, same_qos, flow_gets, publish_gets, stores, FitsRoom, is_exactly_once, Acts, Gives, outcome_of};
