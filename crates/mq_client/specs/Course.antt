@@ -1,6 +1,6 @@
 -- The course of a client end at a stream: its calls in order, the bytes that it received and sent,
--- the times that its clock reported, and the sessions that were saved before bytes were sent (3.1 to
--- 3.14, 4.1, 4.2).
+-- the times that its clock reported, and the sessions that were saved before bytes were sent (3.1
+-- to 3.14, 4.1, 4.2).
 use Rattle.std.specs.Prelude.{◌≡◌, ◌⊎◌, ◌≤◌, ℕ, Bool, true, false, List, [], ◌∷◌, ◌++◌, Option, None, Result, Ok, Err, option_to_list}
 use Rattle.std.specs.List.{flat_map}
 use Rattle.std.specs.Io.KnownBytes.{Appends, Consumes}
