@@ -107,7 +107,7 @@ abbrev pub RefusedOn : OnFull → Pages → HubEvent → BookRefusal → Type 0
 RefusedOn Stop book event why = RefusedAs book event why
 RefusedOn Checkpoint book event why = RefusedAs (after_checkpoint book) event why
 
--- the numbers below n, ascending
+-- the numbers below a count, ascending
 abbrev pub below : ℕ → List ℕ
 below zero = []
-below (suc n) = below n ++ n ∷ []
+below (suc count) = below count ++ count ∷ []
