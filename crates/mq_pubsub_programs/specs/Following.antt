@@ -14,7 +14,7 @@ use Rattle.mq_pubsub_runs.specs.Watching.{Watched, first_inbox}
 -- it sent bytes was printed and flushed.
 abbrev pub ComesToEnd : SubscribeOptions → Option (List Message) → Option (List Message) → Type 0
 ComesToEnd options shown printed =
-    (a : Moment) × (b : Moment) × (j : Inbox) × Watched options a (first_inbox options) shown b j printed × (j.is_ended ≡ true)
+    (start : Moment) × (end : Moment) × (last : Inbox) × Watched options start (first_inbox options) shown end last printed × (last.is_ended ≡ true)
 
 -- the request of a filter (3.8)
 abbrev pub request_of : Qos → List ℕ → Request
