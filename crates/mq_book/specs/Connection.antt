@@ -58,7 +58,7 @@ handed_by (Collect conn) reply = reply.output
 abbrev pub handed : Made → List ℕ
 handed made = handed_by made.event made.reply
 
--- What a connection uses: its stream and the clock, as far as they are known.
+-- The stream and the clock of a connection, as far as they are known.
 pub record Outside : Type 0 where
   pub coming : Option (List ℕ)
   pub written : Option (List ℕ)

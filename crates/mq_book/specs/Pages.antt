@@ -1,4 +1,4 @@
--- What contracts see of a book, a journal and a share.
+-- A book, a journal and a share, as contracts see them.
 use Rattle.std.specs.Prelude.{◌≡◌, ℕ, zero, suc, ◌+◌, ◌*◌, ◌^◌, ◌≤◌, ◌⊎◌, List, [], ◌∷◌, ◌++◌, length, Option, Some, None}
 use Rattle.std.specs.List.{sum_by}
 use Rattle.mq_route.specs.declared.event.HubEvent.{HubEvent}
