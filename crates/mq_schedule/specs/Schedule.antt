@@ -109,7 +109,7 @@ pub record IsSchedule (lines : List (List ℕ)) (schedule : Schedule) : Type 0 w
   pub world : IsWorldLine schedule.limits.most (non_zero_u16_get schedule.capacity) (number_of schedule.window) (words_of first)
   pub steps : AllZip (λ step line. Writes step (words_of line)) schedule.steps.items others
 
--- the first line is none for a world
+-- the first line is not a line for a world
 pub record HasNoWorld (lines : List (List ℕ)) : Type 0 where
   pub first : List ℕ
   pub others : List (List ℕ)
