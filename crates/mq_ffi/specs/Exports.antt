@@ -1,4 +1,4 @@
--- What the exported functions return.
+-- The results of the exported functions.
 use Rattle.std.specs.Prelude.{◌≡◌, ℕ, Bool, true, false, List, ℤ, pos, negsuc, Result}
 use Rattle.mq_decode.specs.Fault.{fault_number}
 use Rattle.mq_decode.specs.Limits.{Bounds, strict, loose}
