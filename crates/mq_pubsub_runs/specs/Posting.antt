@@ -1,4 +1,4 @@
--- What a publisher does, over one connection after another.
+-- The run of a publisher, over one connection after another.
 use Rattle.std.specs.Prelude.{◌≡◌, ⊤, ℕ, Bool, true, false, List, [], ◌∷◌, ◌++◌, map, Option, None, Result, Ok, Err, option_to_list}
 use Rattle.std.specs.List.{filter}
 use Rattle.std.specs.Io.KnownBytes.{Appends}
@@ -107,7 +107,7 @@ abbrev pub PublishEnds : Moment → Moment → Option Message → Option Message
 PublishEnds start end next later lost missing coming left (Ok done) = Finishes start end next lost coming left
 PublishEnds start end next later lost missing coming left (Err stop) = ProgressUntil start end next later lost missing coming left stop
 
--- A client and its stored session, at a moment.
+-- The client and its stored session at the start.
 pub record StartsWith (start : Moment) (client : ClientState) (kept : Option (List ℕ)) : Type 0 where
   pub client_is : start.client ≡ client
   pub kept_is : start.kept ≡ kept

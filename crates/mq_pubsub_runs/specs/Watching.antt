@@ -1,4 +1,4 @@
--- What a subscriber does, over one connection after another.
+-- The run of a subscriber, over one connection after another.
 use Rattle.std.specs.Prelude.{◌≡◌, ◌⊎◌, ⊤, true, false, not, List, [], ◌∷◌, ◌++◌, Option, None, Result, Ok, Err, is_some, option_map, option_to_list}
 use Rattle.std.specs.Io.KnownBytes.{Keeps}
 use Rattle.mq_packet.specs.declared.message.Message.{Message}
@@ -74,7 +74,7 @@ abbrev pub WatchedUntil : SubscribeOptions → Moment → Inbox → Option (List
 WatchedUntil options start first output end last printed (Connection error) = Watched options start first output end last printed
 WatchedUntil options start first output end last printed (Application error) = Unprinted options start first output end
 
--- the work over a connection came to the end of the run, or ended early
+-- the work over a connection reached the end of the run, or ended early
 abbrev pub SubscribeEnds : SubscribeOptions → Moment → Inbox → Option (List Message) → Moment → Inbox → Option (List Message) → Result ⊤ Stop → Type 0
 SubscribeEnds options start first output end last printed (Ok done) = Watched options start first output end last printed × (last.is_ended ≡ true)
 SubscribeEnds options start first output end last printed (Err stop) = WatchedUntil options start first output end last printed stop
