@@ -1,4 +1,4 @@
--- What options say, for the matches of the parser.
+-- The meaning of options, for the matches of the parser.
 use Rattle.std.specs.Prelude.{◌≡◌, ◌≢◌, ◌⊎◌, ◌≤◌, ◌<◌, ◌^◌, ℕ, Bool, true, false, List, [], ◌∷◌, ◌++◌, length, map, Option, Some, None, not, option_map, unwrap_or, is_some, codes, string_bytes}
 use Rattle.std.specs.Str.Parse.{IsNumeral, digits_value, without_leading_plus}
 use Rattle.clap.specs.Words.{Text, first_value, matched_of, one_text, raw_values}
