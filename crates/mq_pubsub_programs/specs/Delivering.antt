@@ -1,4 +1,4 @@
--- What a run of `mqtt pub` did if its exit status is 0.
+-- The effect of a run of `mqtt pub` whose exit status is 0.
 use Rattle.std.specs.Prelude.{◌≡◌, ◌≢◌, ⊤, ℕ, Bool, true, false, List, [], ◌∷◌, map, Option}
 use Rattle.mq_packet.specs.declared.message.Message.{Message}
 use Rattle.mq_client.specs.Course.{IsIdle, Leaves, Moment}

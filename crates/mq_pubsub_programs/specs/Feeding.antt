@@ -54,7 +54,7 @@ EndsSupply supply (lines.Line payload) = ⊤
 EndsSupply supply lines.Later = ⊤
 EndsSupply supply lines.End = IsUsedUp supply
 
--- the same of standard input
+-- the same for standard input
 abbrev pub EndsInput : InputLines → InputLine → Type 0
 EndsInput input (lines.Line payload) = ⊤
 EndsInput input lines.Later = ⊤
