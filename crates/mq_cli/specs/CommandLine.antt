@@ -39,7 +39,8 @@ GivesSource command name word source = (value : Text) × GivesWord command name 
 -- The same for a number in decimal digits, with an optional `+` in front.
 abbrev pub GivesNumber : Option (Text × List Row) → Text → Text → ℕ → Type 0
 GivesNumber command name word number =
-    (rows : List Row) × (digits : Text) × (command ≡ Some (name, rows)) × (one_of word rows ≡ Some digits) × IsNumeral 10 (without_leading_plus digits) × (digits_value 10 (without_leading_plus digits) ≡ number)
+    (rows : List Row) × (digits : Text) × (command ≡ Some (name, rows)) × (one_of word rows ≡ Some digits)
+    × IsNumeral 10 (without_leading_plus digits) × (digits_value 10 (without_leading_plus digits) ≡ number)
 
 -- The value of a flag: whether it was given.
 pub record IsFlag (value : Option Text) (flag : Bool) : Type 0 where
