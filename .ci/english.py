@@ -8,9 +8,7 @@ blocks, and short texts in double quotes.
 It is a fault if
 - there are `LIMIT_PER_THOUSAND` or more hits of .ci/phrases.py in a thousand words (if the limit is
   0, each hit is a fault);
-- a page, or the doc comments (`//!`, `///`) of a source file, has another number of hits than
-  .ci/doc-hits has for it;
-- there is a hit in the first `FIRST_SCREEN` lines of README.md;
+- there is a hit in a page, in the header, or in a doc comment (`//!`, `///`) of a source file;
 - a line of prose is longer than `WIDTH` columns, unless it is in a table or can't be broken;
 - README.md has more than `README_LINES` lines;
 - a quote differs from its code;
@@ -28,9 +26,7 @@ part of the last line, and the block must be everything from one to the other:
 A line `// ..` of the block represents lines that are left out. Common indentation is ignored.
 
 .ci/phrases-kept lists the exceptions, one a line: a path, a colon and a space, and the text that
-contains the hit. .ci/doc-hits lists the files that are not rewritten yet: the number of hits that a
-file has in its doc comments, and its path. Other files may have none. A number that is too high is
-a fault too, so that one more hit is a fault in each file.
+contains the hit.
 """
 
 import ast
@@ -47,7 +43,6 @@ ROOT = os.path.dirname(os.path.dirname(os.path.abspath(__file__)))
 LIMIT_PER_THOUSAND = 2
 WIDTH = 100
 README_LINES = 120
-FIRST_SCREEN = 60
 # Longer sentences and cells of tables are counted in the report.
 SENTENCE_WORDS = 40
 CELL_WORDS = 12
@@ -284,7 +279,7 @@ def prose_files():
             folders[:] = sorted(it for it in folders if it != "out")
             names = sorted(it for it in names if it.endswith(wanted))
             paths.extend(os.path.relpath(f"{at}/{it}", ROOT) for it in names)
-    data = ("words", "phrases-kept", "doc-hits")
+    data = ("words", "phrases-kept")
     paths.extend(f".ci/{it}" for it in sorted(os.listdir(f"{ROOT}/.ci")) if it not in data)
     return [it for it in paths if os.path.isfile(f"{ROOT}/{it}")]
 
@@ -328,12 +323,6 @@ class Kept:
         return [": ".join(it) for it in self.entries if it not in self.used]
 
 
-def doc_limits():
-    """The number of hits that the doc comments of a file may have, by its path."""
-    lines = [it.split() for it in read(".ci/doc-hits").splitlines() if it[:1].isdigit()]
-    return {path: int(count) for count, path in lines}
-
-
 class Page:
     """The findings in one file. A hit is a line number, the found text and the replacement."""
 
@@ -350,7 +339,7 @@ class Page:
         lines = text.split("\n")
         self.doc_hits = [
             it for it in self.hits
-            if path.endswith(".md") or re.match(r"\s*//[/!]", lines[it[0] - 1])
+            if path.endswith((".md", ".h")) or re.match(r"\s*//[/!]", lines[it[0] - 1])
         ]
         self.wide = wide_lines(path, text)
         self.lines = text.count("\n")
@@ -498,23 +487,14 @@ def look(faults):
         faults.extend(fault for it in counted for _, fault in it.faults())
         text = f"{rate:.2f} hits in a thousand words; the limit is {LIMIT_PER_THOUSAND}"
         faults.append(f"prose: {text}")
-    limits = doc_limits()
     for it in counted:
-        count, most = len(it.doc_hits), limits.pop(it.path, 0)
-        if count > most:
-            lines = {line for line, _, _ in it.doc_hits}
-            faults.extend(fault for line, fault in it.faults() if line in lines)
-            faults.append(f"{it.path}: hits in doc comments or a page: {count}; the limit is {most}")
-        elif count < most:
-            faults.append(f".ci/doc-hits: {most} for {it.path}, which has {count}")
-    faults.extend(f".ci/doc-hits: {it} does not exist or is left out" for it in limits)
+        lines = {line for line, _, _ in it.doc_hits}
+        found = [fault for line, fault in it.faults() if line in lines]
+        faults.extend(fault for fault in found if fault not in faults)
     for it in counted:
         faults.extend(f"{it.path}:{line}: prose of more than {WIDTH} columns" for line in it.wide)
-        if it.path == "README.md":
-            if it.lines > README_LINES:
-                faults.append(f"README.md: {it.lines} lines; the limit is {README_LINES}")
-            first = [fault for line, fault in it.faults() if line <= FIRST_SCREEN]
-            faults.extend(fault for fault in first if fault not in faults)
+        if it.path == "README.md" and it.lines > README_LINES:
+            faults.append(f"README.md: {it.lines} lines; the limit is {README_LINES}")
     for path in (it.path for it in pages if it.path.endswith(".md")):
         faults.extend(quote_faults(path))
     for crate in NOUN_FILES:
@@ -527,8 +507,7 @@ def fails(name, pages):
     """A crate, file or folder of NOT_YET would fail if it were counted alone."""
     own = [it for it in pages if is_below(it.path, name)]
     if name == "README.md":
-        page = own[0]
-        if page.lines > README_LINES or any(it[0] <= FIRST_SCREEN for it in page.hits):
+        if own[0].lines > README_LINES or own[0].hits:
             return True
     if name in NOUN_FILES and any(participles(name)):
         return True
