@@ -1,4 +1,4 @@
--- What contracts see of a durable broker.
+-- A durable broker as contracts see it.
 use Rattle.std.specs.Prelude.{◌≡◌, ◌≢◌, ◌⊎◌, ℕ, ◌+◌, ◌≤◌, ◌<◌, ◌^◌, List, ◌++◌, length, Some, Result, Ok, Err, if◌then◌else◌}
 use Rattle.mq_route.specs.declared.event.HubEvent.{HubEvent}
 use Rattle.mq_route.specs.declared.refusal.HubRefusal.{HubRefusal}
