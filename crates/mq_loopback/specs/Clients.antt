@@ -1,4 +1,4 @@
--- What the clients of a loopback file do over their connections.
+-- The runs of the clients of a loopback file over their connections.
 use Rattle.std.specs.Prelude.{◌≡◌, ◌≤◌, ℕ, Bool, None, false, true, List, [], ◌∷◌, ◌++◌, length, map}
 use Rattle.std.specs.List.{flat_map}
 use Rattle.mq_decode.specs.Limits.{strict}

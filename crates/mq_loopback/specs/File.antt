@@ -85,7 +85,7 @@ pub record AreClients (clients : List Client) (lines : List (List ℕ)) : Type 0
   pub apart : AreApart clients
   pub few : length clients ≤ 64
 
--- the lines before this one, counted from 1, are clients, and with it they are none
+-- the lines before this one, counted from 1, are clients, and with this line they are not
 pub record IsBadLine (lines : List (List ℕ)) (number : ℕ) : Type 0 where
   pub clients : List Client
   pub front : List (List ℕ)

@@ -55,7 +55,7 @@ fn no_text(fault: TextFault) -> Result<Option<Text>, AllocError>
     }
 }
 
-// The same of a topic filter.
+// The same for a topic filter.
 fn no_filter(fault: TopicFault) -> Result<Option<TopicFilter>, AllocError>
     ensures none { IfOk result (λ filter. filter ≡ None) }
     ensures memory { fault ≡ TopicFault.Memory → IsErr result }
