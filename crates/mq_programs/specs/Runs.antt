@@ -1,4 +1,4 @@
--- What the client programs do for their arguments.
+-- The effect of the client programs for their arguments.
 use Rattle.std.specs.Prelude.{◌≡◌, ◌⊎◌, ℕ, Bool, List, Option, Some, None, MatchOption, codes}
 use Rattle.mq_topic.specs.Fault.{filter_fault, name_fault}
 use Rattle.mq_topic.specs.declared.fault.TopicFault.{TopicFault}
