@@ -35,7 +35,7 @@ fn append_publish(
     Ok(queue.append_publish(&message, None)?)
 }
 
-// A number of bytes that wait.
+// A number of pending bytes.
 fn waiting(queue: &ByteQueue, words: &mut Words<'_>) -> Result<usize, Wrong>
     ensures { IfOk result (λ count. count ≤ length queue.now) }
 {
