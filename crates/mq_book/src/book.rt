@@ -80,7 +80,7 @@ impl<L: Ledger> Book<L> {
 
     /// Makes the broker's step for a worker's event and adds an entry to the journal.
     ///
-    /// Errors, of which the first that applies is returned with the event:
+    /// Errors: the first failing check, with the event:
     /// - `Hub` if the broker refuses the event;
     /// - `JournalFull` if the journal is full, or if no further place fits into a `u64`;
     /// - `Memory` if an allocation fails.
