@@ -62,7 +62,18 @@ pub record ClosingLaws : Type 0 where
 abbrev pub KeepsWindow : End → End → Type 0
 KeepsWindow before after = (after.window ≡ before.window) × IsWithin before.window before.received after.received
 
--- Whatever arrives, the receive window stays the same and bounds the stored identifiers (4.3.3).
+-- Whatever arrives and whatever its user asks, the receive window stays the same and bounds the
+-- stored identifiers (4.3.3).
 pub record WindowLaws : Type 0 where
   pub client : (packets : List Packet) (end : End) → KeepsWindow end (client_gets_all packets end).end
   pub server : (packets : List Packet) (end : End) → KeepsWindow end (server_gets_all packets end).end
+  pub publish : (identifier : ℕ) (message : Message) (end : End) → KeepsWindow end (publishes identifier message end).end
+  pub subscribe : (identifier : ℕ) (requests : List Request) (end : End) → KeepsWindow end (subscribes identifier requests end).end
+  pub unsubscribe : (identifier : ℕ) (filters : List (List ℕ)) (end : End) → KeepsWindow end (unsubscribes identifier filters end).end
+  pub connect : (packet : Connect) (end : End) → KeepsWindow end (connects packet end).end
+  pub opened : (end : End) → KeepsWindow end (opens end).end
+  pub late : (last now : ℕ) (end : End) → KeepsWindow end (server_ticks last now end).end
+  pub leave : (end : End) → KeepsWindow end (leaves end).end
+  pub drop : (end : End) → KeepsWindow end (drops end).end
+  -- so it does over several of these
+  pub again : (first second third : End) → KeepsWindow first second → KeepsWindow second third → KeepsWindow first third

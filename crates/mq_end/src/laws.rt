@@ -24,8 +24,8 @@ pub fn size_laws()
     ensures { SizeLaws }
 {}
 
-/// After any packet an end has the same receive window, and stores at most as many identifiers as
-/// the window allows or as it stored before (4.3.3).
+/// After any list of packets and calls an end has the same receive window, and stores at most as
+/// many identifiers as the window allows or as it stored before (4.3.3).
 pub fn window_laws()
     ensures { WindowLaws }
 {}
