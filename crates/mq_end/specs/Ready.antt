@@ -1,5 +1,5 @@
 -- The room of an end that is ready for messages.
-use Rattle.std.specs.Prelude.{◌≡◌, ℕ, ◌+◌, ◌<◌, ◌≤◌, ◌^◌, Bool, false, if◌then◌else◌, List, [], ◌∷◌, length, filter}
+use Rattle.std.specs.Prelude.{◌≡◌, ℕ, ◌+◌, ◌<◌, ◌≤◌, ◌^◌, Bool, true, false, if◌then◌else◌, List, [], ◌∷◌, length, filter}
 use Rattle.mq_topic.specs.declared.qos.Qos.TheVariants.{Q2}
 use Rattle.mq_packet.specs.declared.connect.Connect.{Connect}
 use Rattle.mq_packet.specs.declared.message.Message.{Message}
@@ -44,6 +44,16 @@ abbrev pub is_exactly_once : Packet → Bool
 is_exactly_once (packets.Publish packet) = same_qos Q2 packet.message.qos
 is_exactly_once packet = false
 
+-- The packet has no text, payload or list, so nothing of it is copied (3.2, 3.4 to 3.7, 3.11 to
+-- 3.14).
+abbrev pub is_plain : Packet → Bool
+is_plain (packets.Connect c) = false
+is_plain (packets.Publish p) = false
+is_plain (packets.Subscribe i requests) = false
+is_plain (packets.SubAck i codes) = false
+is_plain (packets.Unsubscribe i filters) = false
+is_plain p = true
+
 -- each of these packets has a remaining length that can be encoded (2.2.3)
 abbrev pub AreEncodable : List Packet → Type 0
 AreEncodable [] = Unit {0}
@@ -52,6 +62,11 @@ AreEncodable (packet ∷ rest) = (length (fields packet) < 2 ^ 28) × AreEncodab
 -- An end has room to send these packets without allocation.
 abbrev pub FitsRoom : List Packet → EndState → Type 0
 FitsRoom ps link = length link.output + packets_size ps ≤ link.room.bytes
+
+-- An end can send these packets without allocation; to send none it needs no room.
+abbrev pub CanSend : List Packet → EndState → Type 0
+CanSend [] s = Unit {0}
+CanSend (p ∷ ps) s = FitsRoom (p ∷ ps) s
 
 -- An end has room to connect by this CONNECT on a new connection: for CONNACK and all
 -- retransmissions (3.2, 4.4), then to publish these messages and to send `more` other bytes.

@@ -1,7 +1,7 @@
 //! The client end.
 
 ghost use Rattle.std.specs.Prelude.{◌≡◌, ◌<◌, ◌≤◌, ◌↔◌, ◌⊎◌, ◌∷◌, ◌++◌, IsErrOf, ℕ, [], true, false, length, drop, IfOk, IfErr, IfSome, IfNone, IsSome, OnOk, OnErr, Err, None, Some};
-ghost use Rattle.mq_end.specs.Prelude.{packet_of, blank_end, is_live, over, resumed, publish_refusal, connects, subscribes, subscribe_refusal, unsubscribes, unsubscribe_refusal, leaves, leave_refusal, PutsOut, bytes_less, no_bytes, no_room, Acts, ClientReceives, ClientTakes, Accepts, connect_of, pings, IsDeadline, Requests, Ticks, KeepsWindow, FitsWithin, NamesAnother, kept_session, AreWithin, IsSession, saved_form_two};
+ghost use Rattle.mq_end.specs.Prelude.{packet_of, blank_end, is_live, is_up, over, resumed, publish_refusal, connects, subscribes, subscribe_refusal, unsubscribes, unsubscribe_refusal, leaves, leave_refusal, client_gets, CanSend, is_plain, Shows, PutsOut, bytes_less, no_bytes, no_room, Acts, ClientReceives, ClientTakes, Accepts, connect_of, pings, IsDeadline, Requests, Ticks, KeepsWindow, FitsWithin, NamesAnother, kept_session, AreWithin, IsSession, saved_form_two};
 ghost use Rattle.mq_packet.specs.declared.packet.Packet.TheVariants as packets;
 
 use crate::config::ClientConfig;
@@ -200,13 +200,17 @@ impl ClientEnd {
 
     /// Processes a complete packet that is borrowed from a buffer, received at time `now`;
     /// `receive` decodes packets and does this with each. Ignores it without a connection. Closes
-    /// the end if an allocation fails.
+    /// the end if an allocation fails. While connected, that happens only for a packet that is
+    /// answered, or with text, a payload or a list.
     pub fn on_view(&mut self, now: u64, view: &PacketView<'_>) -> Progress
         ensures open { is_live self.old.link.end.state ≡ true → ClientTakes now (packet_of view.now) self.old.link self.new.link
             result.happenings result.acknowledged result.closed }
         ensures closed { is_live self.old.link.end.state ≡ false → self.new ≡ self.old }
         ensures nothing { is_live self.old.link.end.state ≡ false
             → (result.happenings ≡ []) × (result.acknowledged ≡ []) × (result.closed ≡ None) }
+        ensures within { is_up self.old.link.end.state ≡ true → is_plain (packet_of view.now) ≡ true
+            → CanSend (client_gets (packet_of view.now) self.old.link.end).out self.old.link
+            → Shows (client_gets (packet_of view.now) self.old.link.end) self.old.link self.new.link result.happenings result.acknowledged result.closed }
         ensures config { self.new.config ≡ self.old.config }
     {
         self.link.on_view(Role::Client, now, view)

@@ -1,7 +1,7 @@
 //! The server end.
 
 ghost use Rattle.std.specs.Prelude.{◌≡◌, ◌+◌, ◌<◌, ◌≤◌, ◌++◌, ◌↔◌, ℕ, List, [], ◌∷◌, true, false, length, drop, IsOk, IfOk, IfErr, IfSome, IfNone, IsSome, OnOk, OnErr, Ok, Err, None, Some};
-ghost use Rattle.mq_end.specs.Prelude.{Q2, fits_delivery, packet_of, same_qos, blank_end, is_live, is_up, over, resumed, would_hand, opens, ready_refusal, server_gets, server_publish_refusal, subacks, suback_refusal, unsubacks, unsuback_refusal, Acts, HearsAt, ServerReceives, Shows, TakesOne, TakesPacket, no_outcome, outcome_of, Accepts, CanRise, FitsRoom, HasRise, HasRoom, is_exactly_once, packets_size, whole_size, suback_size, unsuback_size, bytes_less, no_bytes, no_room, server_ticks, IsDeadline, is_overdue, KeepsWindow, FitsWithin};
+ghost use Rattle.mq_end.specs.Prelude.{Q2, fits_delivery, packet_of, same_qos, blank_end, is_live, is_up, over, resumed, would_hand, opens, ready_refusal, server_gets, server_publish_refusal, subacks, suback_refusal, unsubacks, unsuback_refusal, Acts, HearsAt, ServerReceives, Shows, TakesOne, TakesPacket, no_outcome, outcome_of, Accepts, CanRise, FitsRoom, CanSend, HasRise, HasRoom, is_exactly_once, is_plain, packets_size, whole_size, suback_size, unsuback_size, bytes_less, no_bytes, no_room, server_ticks, IsDeadline, is_overdue, KeepsWindow, FitsWithin};
 ghost use Rattle.mq_end.specs.declared.state.State.TheVariants as states;
 
 use crate::config::ServerConfig;
@@ -147,7 +147,7 @@ impl ServerEnd {
         ensures nothing { is_live self.old.end.state ≡ false
             → (result.happenings ≡ []) × (result.acknowledged ≡ []) × (result.closed ≡ None) }
         ensures within { is_up self.old.end.state ≡ true → is_exactly_once packet ≡ false
-            → FitsRoom (server_gets packet self.old.end).out self.old
+            → CanSend (server_gets packet self.old.end).out self.old
             → Shows (server_gets packet self.old.end) self.old self.new result.happenings result.acknowledged result.closed }
         ensures kept { is_up self.old.end.state ≡ true → (ms : List Message) (more : ℕ)
             → HasRoom ms (packets_size (server_gets packet self.old.end).out + more) self.old → HasRoom ms more self.new }
@@ -156,13 +156,17 @@ impl ServerEnd {
     }
 
     /// Processes a complete packet that is borrowed from a buffer, like `on_packet` with an equal
-    /// packet. Closes the end if an allocation for a copy fails.
+    /// packet. Closes the end if an allocation fails. At a connected end, within the reserved room,
+    /// this happens only for a packet with text, a payload or a list, which is copied.
     pub fn on_view(&mut self, now: u64, view: &PacketView<'_>) -> Progress
         ensures open { is_live self.old.end.state ≡ true → TakesOne now (packet_of view.now) self.old self.new
             result.happenings result.acknowledged result.closed }
         ensures closed { is_live self.old.end.state ≡ false → self.new ≡ self.old }
         ensures nothing { is_live self.old.end.state ≡ false
             → (result.happenings ≡ []) × (result.acknowledged ≡ []) × (result.closed ≡ None) }
+        ensures within { is_up self.old.end.state ≡ true → is_plain (packet_of view.now) ≡ true
+            → CanSend (server_gets (packet_of view.now) self.old.end).out self.old
+            → Shows (server_gets (packet_of view.now) self.old.end) self.old self.new result.happenings result.acknowledged result.closed }
         ensures kept { is_up self.old.end.state ≡ true → (ms : List Message) (more : ℕ)
             → HasRoom ms (packets_size (server_gets (packet_of view.now) self.old.end).out + more) self.old → HasRoom ms more self.new }
     {
