@@ -47,12 +47,12 @@ is_exactly_once packet = false
 -- The packet has no text, payload or list, so nothing of it is copied (3.2, 3.4 to 3.7, 3.11 to
 -- 3.14).
 abbrev pub is_plain : Packet → Bool
-is_plain (packets.Connect c) = false
-is_plain (packets.Publish p) = false
-is_plain (packets.Subscribe i requests) = false
-is_plain (packets.SubAck i codes) = false
-is_plain (packets.Unsubscribe i filters) = false
-is_plain p = true
+is_plain (packets.Connect connect) = false
+is_plain (packets.Publish packet) = false
+is_plain (packets.Subscribe identifier requests) = false
+is_plain (packets.SubAck identifier codes) = false
+is_plain (packets.Unsubscribe identifier filters) = false
+is_plain packet = true
 
 -- each of these packets has a remaining length that can be encoded (2.2.3)
 abbrev pub AreEncodable : List Packet → Type 0
@@ -65,8 +65,8 @@ FitsRoom ps link = length link.output + packets_size ps ≤ link.room.bytes
 
 -- An end can send these packets without allocation; to send none it needs no room.
 abbrev pub CanSend : List Packet → EndState → Type 0
-CanSend [] s = Unit {0}
-CanSend (p ∷ ps) s = FitsRoom (p ∷ ps) s
+CanSend [] link = Unit {0}
+CanSend (packet ∷ more) link = FitsRoom (packet ∷ more) link
 
 -- An end has room to connect by this CONNECT on a new connection: for CONNACK and all
 -- retransmissions (3.2, 4.4), then to publish these messages and to send `more` other bytes.
