@@ -15,7 +15,6 @@ pub use Rattle.mq_loop.specs.Inside.Turns.{IsOldestFirst, holding, must_wait, no
 pub use Rattle.mq_loop.specs.Places.{count_in, is_in}
 pub use Rattle.mq_loop.specs.Rounds.{AgesStay, AreBounded, IsEmpty, IsOpened, IsReached, IsSettled, connections_in, loop_without_notes, new_loop, pending_at, kept_at, IsNoted, IsRoomier, AtOutputs, Collects, Hears, HearsNothing, IsFlushed, IsGiven, IsSame, MayCollect, OthersStay, exists_at, has_unread, output_at, waiting_at, AreEnded, ends_left, watched_state}
 pub use Rattle.mq_loop.specs.Sockets.{ComesIn, Sends, finishes, GoesOut, IsTaken, IsWithin}
-pub use Rattle.mq_loop.specs.contracts.event_loop.EventLoop.{the_row}
 pub use Rattle.mq_loop.specs.declared.broker.SnapshotNote.{SnapshotNote}
 pub use Rattle.mq_loop.specs.declared.connection.Flushed.TheVariants.{All, Blocked, Failed}
 pub use Rattle.mq_loop.specs.declared.socket.WriteOutcome.TheVariants.{Nothing}

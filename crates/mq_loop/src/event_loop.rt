@@ -390,7 +390,8 @@ impl<B: Broker + Drop, S: Socket + Drop, O: Observer + Drop> EventLoop<B, S, O> 
 }
 
 impl<B: Broker + Drop, S: Socket + Drop, O: Observer + Drop> EventLoop<B, S, O> {
-    ghost use Rattle.mq_loop.specs.Prelude.{Lends, sem, the_row};
+    ghost use Rattle.mq_loop.specs.Prelude.{Lends, sem};
+    ghost use Rattle.mq_loop.specs.contracts.event_loop.EventLoop.{the_row};
 
     /// The observer, to be changed.
     pub fn observer_mut(&mut self) -> &mut O
