@@ -4,7 +4,7 @@ use Rattle.mq_packet.specs.declared.connect.Connect.{Connect}
 use Rattle.mq_packet.specs.Encoding.{encodings}
 use Rattle.mq_packet.specs.declared.message.Message.{Message}
 use Rattle.mq_end.specs.State.{EndState, Room, no_bytes}
-use Rattle.mq_end.specs.Ready.{HasRise, HasRoom}
+use Rattle.mq_end.specs.Ready.{HasRise}
 use Rattle.mq_end.specs.End.{over}
 use Rattle.mq_end.specs.declared.state.State.TheVariants.{Connected}
 use Rattle.mq_route.specs.Arrives.{greeting}
@@ -41,14 +41,6 @@ pub record HasConnectRoomAt (c : Connect) (key : ℕ) (ms : List Message) (more 
   pub session : BrokerSession
   pub there : session_at key ts ≡ Some session
   pub connect_end : HasRise c ms more session.end
-
--- the end of the session of a key has more room, and lost none
-pub record IsEnlarged (key : ℕ) (old new : List BrokerSession) : Type 0 where
-  pub session : BrokerSession
-  pub there : session_at key old ≡ Some session
-  pub room : Room
-  pub after : new ≡ with_server key (roomed room session.end) old
-  pub before : (ms : List Message) (n : ℕ) → HasRoom ms n session.end → HasRoom ms n (roomed room session.end)
 
 -- an end without connection and pending output, which keeps its room
 abbrev pub left : EndState → EndState

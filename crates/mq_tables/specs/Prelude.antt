@@ -28,7 +28,7 @@ pub use Rattle.mq_route.specs.Work.{drops_copies}
 pub use Rattle.mq_topic.specs.Rows.{with_row, without_client}
 pub use Rattle.mq_tables.specs.Alarms.{IsQuiet, RingsWith, is_named, is_late_on, AreAwaited, AreAwaitedBut, IsAwaited}
 pub use Rattle.mq_tables.specs.Calls.{IsAllowed, Serves, publish_call, CanServe, ServesAt}
-pub use Rattle.mq_tables.specs.Connecting.{connected_end, roomed, HasConnected, IsRoomed, left, HasConnectRoomAt, IsEnlarged, parted, HasContinued}
+pub use Rattle.mq_tables.specs.Connecting.{connected_end, roomed, HasConnected, IsRoomed, left, HasConnectRoomAt, parted, HasContinued}
 pub use Rattle.mq_tables.specs.Connections.{connection_of, IsReading, IsTimely, connections_of, IsDecoding, IsNamedAt, touched_at, holds, left_with, connected_for}
 pub use Rattle.mq_tables.specs.Expiry.{gone_keys, is_gone}
 pub use Rattle.mq_tables.specs.Late.{AreInTime, HasLate, HasLateNamed}
