@@ -1,15 +1,14 @@
 """Checks the English and the shape of the repository's prose, for .ci/quick.
 
 It reads the Markdown of the root and of docs/, comments of the Rattle sources (`//!`, `///`, `//`),
-comments of the definitions and proofs (`--`), the help texts of the command line, and the comments
-of Makefile, .ci/, bench/ and examples/. It skips code in backticks, fenced blocks, and short texts
-in double quotes.
+comments of the definitions and proofs (`--`), the help texts of the command lines, and the comments
+of crates.txt, Makefile, .ci/, bench/, examples/ and include/. It skips code in backticks, fenced
+blocks, and short texts in double quotes.
 
 It is a fault if
 - there are `LIMIT_PER_THOUSAND` or more hits of .ci/phrases.py in a thousand words (if the limit is
   0, each hit is a fault);
-- a page, or the doc comments (`//!`, `///`) of a source file, has more hits than .ci/doc-hits allows;
-- there is a hit in the first `FIRST_SCREEN` lines of README.md;
+- there is a hit in a page, in the header, or in a doc comment (`//!`, `///`) of a source file;
 - a line of prose is longer than `WIDTH` columns, unless it is in a table or can't be broken;
 - README.md has more than `README_LINES` lines;
 - a quote differs from its code;
@@ -27,8 +26,7 @@ part of the last line, and the block must be everything from one to the other:
 A line `// ..` of the block represents lines that are left out. Common indentation is ignored.
 
 .ci/phrases-kept lists the exceptions, one a line: a path, a colon and a space, and the text that
-contains the hit. .ci/doc-hits lists the files that are not rewritten yet: the number of hits that a
-file may have in its doc comments, and its path. Other files may have none.
+contains the hit.
 """
 
 import ast
@@ -36,6 +34,7 @@ import bisect
 import io
 import os
 import re
+import textwrap
 import tokenize
 
 import phrases
@@ -44,13 +43,14 @@ ROOT = os.path.dirname(os.path.dirname(os.path.abspath(__file__)))
 LIMIT_PER_THOUSAND = 2
 WIDTH = 100
 README_LINES = 120
-FIRST_SCREEN = 60
 # Longer sentences and cells of tables are counted in the report.
 SENTENCE_WORDS = 40
 CELL_WORDS = 12
 # Crates whose files have nouns as names, and the participles that are allowed there.
-NOUN_FILES = ["mq_hub"]
+NOUN_FILES = ["mq_hub", "mq_tables"]
 NOUNS = {"retained"}
+# Crates with the help texts of a command line.
+HELP_TEXTS = ("crates/mq_cli/src/", "crates/mq_pubsub_options/src/")
 # Crates, files and folders that are not rewritten yet.
 NOT_YET = set()
 
@@ -228,13 +228,13 @@ def prose_of(path, text):
     ending = os.path.splitext(path)[1]
     if ending == ".md":
         passages = in_markdown(enumerate(text.split("\n"), 1))
-    elif ending == ".rt":
+    elif ending in (".rt", ".rs"):
         passages = in_comments(text, "//[/!]?", RUST_LITERALS)
-        if path.startswith("crates/mq_cli/src/") and ".help(" in text:
+        if path.startswith(HELP_TEXTS) and ".help(" in text:
             passages += in_help(text)
     elif ending == ".antt":
         passages = in_comments(text, "--", NO_LITERALS)
-    elif ending == ".c":
+    elif ending in (".c", ".h"):
         passages = in_c(text)
     elif is_python(path, text):
         passages = in_python(text)
@@ -252,31 +252,34 @@ def wide_lines(path, text):
     if path.endswith(".md"):
         prose = {number for passage in in_markdown(lines) for number, _ in passage}
         return [number for number, line in wide if number in prose and line.strip()[0] != "|"]
-    if path.endswith(".c") or is_python(path, text):
-        passages = in_c(text) if path.endswith(".c") else in_python(text)
+    is_c = path.endswith((".c", ".h"))
+    if is_c or is_python(path, text):
+        passages = in_c(text) if is_c else in_python(text)
         # A passage of one line can be a comment after code, and is no block of prose.
         prose = {number for passage in passages if len(passage) > 1 for number, _ in passage}
-        mark = "//" if path.endswith(".c") else "#"
+        mark = "//" if is_c else "#"
         return [n for n, line in wide if n in prose or line.strip().startswith(mark)]
-    mark = {".rt": "//", ".antt": "--"}.get(os.path.splitext(path)[1], "#")
+    mark = {".rt": "//", ".rs": "//", ".antt": "--"}.get(os.path.splitext(path)[1], "#")
     return [number for number, line in wide if line.strip().startswith(mark)]
 
 
 def prose_files():
     """The paths of all files with prose, relative to the root."""
-    paths = [it for it in sorted(os.listdir(ROOT)) if it.endswith(".md") or it == "Makefile"]
+    tops = ("Makefile", "crates.txt")
+    paths = [it for it in sorted(os.listdir(ROOT)) if it.endswith(".md") or it in tops]
     endings = {
         "docs": (".md",),
         "crates": (".rt", ".antt"),
         "bench": (".c", ".py", ".sh"),
-        "examples": (".md", ".rt", ".sh"),
+        "examples": (".c", ".md", ".py", ".rs", ".rt", ".sh"),
+        "include": (".h",),
     }
     for top, wanted in endings.items():
         for at, folders, names in os.walk(f"{ROOT}/{top}"):
             folders[:] = sorted(it for it in folders if it != "out")
             names = sorted(it for it in names if it.endswith(wanted))
             paths.extend(os.path.relpath(f"{at}/{it}", ROOT) for it in names)
-    data = ("words", "phrases-kept", "doc-hits")
+    data = ("words", "phrases-kept")
     paths.extend(f".ci/{it}" for it in sorted(os.listdir(f"{ROOT}/.ci")) if it not in data)
     return [it for it in paths if os.path.isfile(f"{ROOT}/{it}")]
 
@@ -320,12 +323,6 @@ class Kept:
         return [": ".join(it) for it in self.entries if it not in self.used]
 
 
-def doc_limits():
-    """The number of hits that the doc comments of a file may have, by its path."""
-    lines = [it.split() for it in read(".ci/doc-hits").splitlines() if it[:1].isdigit()]
-    return {path: int(count) for count, path in lines}
-
-
 class Page:
     """The findings in one file. A hit is a line number, the found text and the replacement."""
 
@@ -342,7 +339,7 @@ class Page:
         lines = text.split("\n")
         self.doc_hits = [
             it for it in self.hits
-            if path.endswith(".md") or re.match(r"\s*//[/!]", lines[it[0] - 1])
+            if path.endswith((".md", ".h")) or re.match(r"\s*//[/!]", lines[it[0] - 1])
         ]
         self.wide = wide_lines(path, text)
         self.lines = text.count("\n")
@@ -443,9 +440,10 @@ def quote_faults(path):
             yield f"{path}:{place + 1}: the quote differs from {source}"
 
 
-def hits_in_doc_comment(sentence):
-    """The texts that are found in a doc comment with this sentence."""
-    prose = prose_of("crates/mq_wire/src/lib.rt", f"/// {sentence}\npub fn f() {{}}\n")
+def hits_in_doc_comment(sentence, width=1000):
+    """The texts that are found in a doc comment with this sentence, in lines of this width."""
+    comment = "".join(f"/// {it}\n" for it in textwrap.wrap(sentence, width))
+    prose = prose_of("crates/mq_wire/src/lib.rt", f"{comment}pub fn f() {{}}\n")
     return [prose.raw[start:end] for start, end, _ in prose.hits()]
 
 
@@ -465,6 +463,10 @@ def self_test():
             yield f".ci/phrases.py: {pattern!r} does not find: {sentence}"
         if not hits_in_doc_comment(sentence):
             yield f".ci/phrases.py: no hit in a doc comment: {sentence}"
+    for sentence in phrases.OLD:
+        for width in (60, 80, 90, 1000):
+            if not hits_in_doc_comment(sentence, width):
+                yield f".ci/phrases.py: no hit in a doc comment of {width} columns: {sentence}"
     for sentence in phrases.PLAIN:
         for found in hits_in_doc_comment(sentence):
             yield f".ci/phrases.py: '{found}' is a hit in: {sentence}"
@@ -485,21 +487,14 @@ def look(faults):
         faults.extend(fault for it in counted for _, fault in it.faults())
         text = f"{rate:.2f} hits in a thousand words; the limit is {LIMIT_PER_THOUSAND}"
         faults.append(f"prose: {text}")
-    limits = doc_limits()
     for it in counted:
-        most = limits.get(it.path, 0)
-        if len(it.doc_hits) > most:
-            lines = {line for line, _, _ in it.doc_hits}
-            faults.extend(fault for line, fault in it.faults() if line in lines)
-            count = len(it.doc_hits)
-            faults.append(f"{it.path}: hits in doc comments or a page: {count}; the limit is {most}")
+        lines = {line for line, _, _ in it.doc_hits}
+        found = [fault for line, fault in it.faults() if line in lines]
+        faults.extend(fault for fault in found if fault not in faults)
     for it in counted:
         faults.extend(f"{it.path}:{line}: prose of more than {WIDTH} columns" for line in it.wide)
-        if it.path == "README.md":
-            if it.lines > README_LINES:
-                faults.append(f"README.md: {it.lines} lines; the limit is {README_LINES}")
-            first = [fault for line, fault in it.faults() if line <= FIRST_SCREEN]
-            faults.extend(fault for fault in first if fault not in faults)
+        if it.path == "README.md" and it.lines > README_LINES:
+            faults.append(f"README.md: {it.lines} lines; the limit is {README_LINES}")
     for path in (it.path for it in pages if it.path.endswith(".md")):
         faults.extend(quote_faults(path))
     for crate in NOUN_FILES:
@@ -512,8 +507,7 @@ def fails(name, pages):
     """A crate, file or folder of NOT_YET would fail if it were counted alone."""
     own = [it for it in pages if is_below(it.path, name)]
     if name == "README.md":
-        page = own[0]
-        if page.lines > README_LINES or any(it[0] <= FIRST_SCREEN for it in page.hits):
+        if own[0].lines > README_LINES or own[0].hits:
             return True
     if name in NOUN_FILES and any(participles(name)):
         return True
@@ -546,10 +540,6 @@ def report(pages, paths):
     sentences, cells = sum(it.long_sentences for it in pages), sum(it.long_cells for it in pages)
     print(f"pages: {sentences} sentences over {SENTENCE_WORDS} words")
     print(f"pages: {cells} cells of tables over {CELL_WORDS} words")
-    limits = doc_limits()
-    low = [it for it in pages if len(it.doc_hits) < limits.get(it.path, 0)]
-    for it in low:
-        print(f".ci/doc-hits can have {len(it.doc_hits)} for {it.path}")
     done = [it for it in sorted(NOT_YET) if not fails(it, pages)]
     if done:
         print("NOT_YET can lose: " + ", ".join(done))

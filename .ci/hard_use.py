@@ -357,7 +357,7 @@ def full_output(program, expect):
 
 
 def killed_collect(program, expect, count=5):
-    """`collect` is killed at each write of its broker in turn. What it acknowledged, it had printed."""
+    """`collect` is killed at each write of its broker in turn. It printed each message before acknowledging it."""
     for kill_at in range(2 * count + 4):
         with socket.create_server(("127.0.0.1", 0)) as listener, tempfile.TemporaryFile() as output:
             words = [str(it) for it in collect_words(program, listener.getsockname()[1], count)]

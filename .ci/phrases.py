@@ -3,7 +3,7 @@
 An entry of `PHRASES` has a regular expression, the words to write instead, and a sentence that the
 expression finds. The expressions run over lower-case prose with one passage a line, in which each
 character of code is replaced by a backtick. The self-test runs each expression over its sentence,
-and every expression over the sentences of `PLAIN`.
+and every expression over the sentences of `OLD` and `PLAIN`.
 """
 
 CODE = r"`+"
@@ -391,8 +391,69 @@ PHRASES = [
     (r"\bfor good\b", "permanently", "It closes for good."),
 ]
 
+# Sentences in the old style, in each of which an expression must find something, however the lines
+# of the comment are broken.
+OLD = [
+    "What it is for is messages that must arrive once although connections break",
+    "In three terminals, the broker first, then who collects, then who publishes",
+    "prints how many there are; then nothing, `cut` where the file ends inside a packet, or "
+    "the fault",
+    "Every function of every crate is proved to return, asked what its `requires` says",
+    "A packet gets the first identifier that is free, and is refused as full exactly where "
+    "as many are in use as there may be",
+    "Only tested, everywhere: that nothing but a refused allocation gives the answer for "
+    "lack of memory",
+    "A connection is looked for where it stood when its piece came",
+    "Some matches of `mq_decode` spell `?` out",
+    "What a PUBLISH does is decided before anything changes: its message is handed on, it "
+    "came before, or its identifier doesn't fit the receiving window",
+    "A moment is told once: a worker whose next turn comes within the same millisecond makes "
+    "no step for it",
+    "What makes a function dear is what it lets go of",
+    "It is this moment: where the end is up, and a keep-alive has gone by since its CONNECT "
+    "or its last PINGREQ, it puts out PINGREQ. It never closes, so that the answer is "
+    "`None`.",
+    "Fails with the first refusal that stands, and then nothing changes.",
+    "A session that took its CONNECT in while it stands apart",
+    "Each part is done in a thread of its own, where one can be made: else parts are done "
+    "one after another, and where one of them waits for another nothing goes on.",
+    "a gate through which nobody comes",
+    "What a user says of a broker.",
+    "a packet came that may not come there",
+    "Makes the events of a schedule between two ends, and prints what comes of each",
+    "Documents: no word of a proof's length that was not measured",
+]
+
 # Plain sentences in which no expression may find anything.
 PLAIN = [
+    "Use it when a message must be delivered exactly once even though connections drop.",
+    "Run these in three terminals: broker, subscriber, publisher.",
+    "prints the number of packets, then `cut` if the file ends inside a packet, or the fault "
+    "if a packet is malformed",
+    "Every function is proved to terminate without overflow, out-of-bounds access or panic "
+    "whenever its preconditions hold.",
+    "A packet gets the first free identifier. Allocation fails only when the configured "
+    "maximum is in use.",
+    "Tested, not proved: an out-of-memory error is returned only after an allocation really "
+    "failed.",
+    "The index found for the first packet of a read is tried first for the packets after it.",
+    "`mq_decode` writes some `match`es instead of `?`, because the kit's borrow checker "
+    "rejects `?` there.",
+    "A PUBLISH is first classified as new, duplicate or over the receive window. Nothing "
+    "changes until then.",
+    "A worker sends at most one tick per millisecond.",
+    "The cost of a proof is dominated by the values that the function drops.",
+    "Call this regularly with the current time. Queues a PINGREQ if the keep-alive interval "
+    "has elapsed since CONNECT or the last PINGREQ.",
+    "On error nothing changes, and the first failing check is reported.",
+    "A session that has processed its CONNECT but is not in the table yet.",
+    "Runs each part in its own thread. If threads can't be created, the parts run one after "
+    "another, and parts that wait for each other deadlock.",
+    "an acceptor that never accepts",
+    "Broker configuration.",
+    "unexpected packet",
+    "Replays a schedule between a client and a server and prints the result of each event",
+    "docs: drop unmeasured proof times",
     "Returns the number of stored sessions.",
     "The decoder keeps the offset where the packet starts.",
     "In the case where it is empty, the result is `None`.",

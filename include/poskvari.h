@@ -341,7 +341,7 @@ typedef struct posk_client {
 
 #define POSK_CLIENT_NONE {NULL}
 
-/* What posk_next_event reports. */
+/* The kind of an event. */
 enum posk_event_kind {
     POSK_EVENT_NONE,
     POSK_EVENT_CONNECTED,     /* the server accepted the connection (3.2) */
@@ -364,7 +364,7 @@ typedef struct posk_event {
 /* Why posk_receive reports that the client closed its end. Close the connection then. */
 enum posk_close {
     POSK_CLOSED_MALFORMED = 1,     /* bytes that are not a packet */
-    POSK_CLOSED_UNEXPECTED = 2,    /* a packet that may not come there */
+    POSK_CLOSED_UNEXPECTED = 2,    /* an unexpected packet */
     POSK_CLOSED_SESSION_LOST = 4,  /* the server lost the session */
     POSK_CLOSED_MEMORY = 6,        /* an allocation failed */
     POSK_CLOSED_WINDOW = 11,       /* a QoS 2 message does not fit the window */
@@ -444,8 +444,8 @@ static inline int posk_receive(posk_client *client, uint64_t now, const void *by
     return poskvari_client_receive(client, now, posk_bytes_(bytes), size);
 }
 
-/* Moves bytes that must be sent to the server to the buffer, as many as fit, and returns their
- * number. Call it after each other call until it returns 0. */
+/* Moves bytes that must be sent to the server and that fit to the buffer, and returns their number.
+ * Call it after each other call until it returns 0. */
 static inline size_t posk_output(posk_client *client, void *out, size_t room) {
     if (!client || !client->at || !out) return 0;
     return poskvari_client_output(client, (uint8_t *)out, room);

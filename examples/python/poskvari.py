@@ -4,8 +4,8 @@
 caller passes the time. `packet` finds the packet at the front of bytes. `encode_connect` and others
 encode packets. `matches` tests a topic filter against a topic name.
 
-The library is libposkvari.so in the folder that the variable POSKVARI_LIB names, or where the
-system finds it.
+The library is libposkvari.so in the folder that the variable POSKVARI_LIB names, or else in a
+folder of the system.
 """
 
 from __future__ import annotations
@@ -232,7 +232,7 @@ def matches(topic_filter: str, topic: str) -> bool:
 
 
 def _encode(name: str, most: int, *words: object) -> bytes:
-    """Returns the packet that a function encodes, which has at most so many bytes."""
+    """Returns the packet that a function encodes, which has at most `most` bytes."""
     room = ctypes.create_string_buffer(most)
     size = _call(f"encode_{name}", *words, room, most)
     return room.raw[:size]

@@ -1,4 +1,4 @@
-//! A client over a socket: subscribes, prints the messages that it receives, and disconnects.
+//! A client over a socket: subscribes, prints the topics of messages, and disconnects.
 #![tactic(auto)]
 
 use mq_decode::Limits;
@@ -7,28 +7,11 @@ use mq_packet::{NonEmpty, Request};
 use mq_stream::{Clock, Elapsed, SocketStream, Stream};
 use mq_topic::{Qos, TopicFilter};
 use mq_wire::Text;
-use std::alloc::Global;
-use std::env;
 use std::net::{Net, OpenStream, SocketAddr};
 use std::process::ExitCode;
 use std::time::{Duration, Instant};
 
-/// Creates a client that is not connected.
-fn new_client(alloc: Global) -> anyhow::Result<ClientEnd> {
-    let config = ClientConfig {
-        id: Text::new(alloc, "example")?,
-        keep_alive: 60,
-        will: None,
-        login: None,
-        limits: Limits::new(1_048_576).unwrap(),
-        capacity: 100,
-        window: None,
-    };
-    Ok(ClientEnd::new(alloc, config))
-}
-
-/// Subscribes to `filter`, and prints the topics of `wanted` messages. `stream.read` must return
-/// within a second even if no bytes arrive, so that `tick` is called.
+/// Subscribes, and prints the topics of `wanted` messages. A read must end within a second.
 fn listen<S: Stream, C: Clock>(
     rt: &impl Print,
     client: &mut ClientEnd,
@@ -69,42 +52,39 @@ fn listen<S: Stream, C: Clock>(
 }
 
 /// Connects to a port of this machine, subscribes, and prints the topics of `wanted` messages.
-fn run<R: Net + std::time::Clock>(
-    rt: &HostRuntime,
-    host: &R,
-    port: u16,
-    filter: &str,
-    wanted: u32,
-) -> anyhow::Result<()> {
+fn run<R>(rt: &HostRuntime, host: &R, port: u16, filter: &str, wanted: u32) -> anyhow::Result<()>
+where
+    R: Net + std::time::Clock,
+{
     let alloc = rt.alloc();
     let filter = TopicFilter::parse(alloc, filter)?;
-    let requests = NonEmpty::from_vec(vec![in alloc;
-        Request {
-            filter,
-            qos: Qos::Q2
-        },
-    ]?);
+    let qos = Qos::Q2;
+    let requests = NonEmpty::from_vec(vec![in alloc; Request { filter, qos }]?);
     let address = SocketAddr::from(([127, 0, 0, 1], port));
     let socket = host.connect_timeout(address, Duration::from_secs(10))?;
-    socket.set_read_timeout(Some(Duration::from_secs(1)))?;
+    socket.set_read_timeout(Some(Duration::from_secs(1)))?; // so that `tick` is called in time
     let mut clock = Elapsed::since(host, Instant::now(host)?);
-    let mut client = new_client(alloc)?;
+    let config = ClientConfig {
+        id: Text::new(alloc, "example")?,
+        keep_alive: 60, // seconds; 0 for none
+        will: None,
+        login: None,
+        limits: Limits::new(1_048_576).unwrap(),
+        capacity: 100, // packet identifiers in use, at least 1
+        window: None, // unreleased QoS 2 messages, at least 1
+    };
+    let mut client = ClientEnd::new(alloc, config);
     let mut stream = SocketStream(socket);
     listen(rt, &mut client, &mut stream, &mut clock, &requests, wanted)
 }
 
 fn main(rt: HostRuntime) -> anyhow::Result<ExitCode> {
-    let words: Vec<String> = env::args(&rt)?.collect(rt.alloc())?;
+    let words: Vec<String> = std::env::args(&rt)?.collect(rt.alloc())?;
     let [_, port, filter, count] = words.as_slice() else {
         println!(&rt; "usage: example_client PORT FILTER COUNT")?;
         return Ok(ExitCode::from(2));
     };
-    run(
-        &rt,
-        &rt,
-        port.as_str().parse()?,
-        filter.as_str(),
-        count.as_str().parse()?,
-    )?;
+    let (port, count) = (port.as_str().parse()?, count.as_str().parse()?);
+    run(&rt, &rt, port, filter.as_str(), count)?;
     Ok(ExitCode::SUCCESS)
 }

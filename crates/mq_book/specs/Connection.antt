@@ -12,10 +12,10 @@ pub record Made : Type 0 where
   pub event : HubEvent
   pub reply : HubReply
 
--- These steps lead from x to y, one after another. `steps_to` says what one step does.
+-- These steps lead from the old state to the new one, one after another. `steps_to` defines a step.
 abbrev pub Chain : {X : Type 0} → (X → HubEvent → HubReply → X → Type 0) → X → List Made → X → Type 0
-Chain steps_to x [] y = y ≡ x
-Chain {X} steps_to x (m ∷ ms) y = (z : X) × steps_to x m.event m.reply z × Chain steps_to z ms y
+Chain steps_to old [] new = new ≡ old
+Chain {X} steps_to old (step ∷ rest) new = (between : X) × steps_to old step.event step.reply between × Chain steps_to between rest new
 
 -- A turn of a connection: the bytes that were read, and the time that the clock then reported.
 pub record Turn : Type 0 where
@@ -34,7 +34,7 @@ tick_events last time = if is_known last time then [] else (Tick time ∷ [])
 -- bytes, if there are some
 abbrev pub bytes_events : Conn → List ℕ → List HubEvent
 bytes_events conn [] = []
-bytes_events conn (b ∷ bs) = Bytes conn (b ∷ bs) ∷ []
+bytes_events conn (byte ∷ rest) = Bytes conn (byte ∷ rest) ∷ []
 
 -- the events of a turn, if the broker knows the time `last`
 abbrev pub turn_events : Conn → Option ℕ → Turn → List HubEvent
@@ -56,9 +56,9 @@ handed_by (Tick time) reply = []
 handed_by (Collect conn) reply = reply.output
 
 abbrev pub handed : Made → List ℕ
-handed m = handed_by m.event m.reply
+handed made = handed_by made.event made.reply
 
--- What a connection uses: its stream and the clock, as far as they are known.
+-- The stream and the clock of a connection, as far as they are known.
 pub record Outside : Type 0 where
   pub coming : Option (List ℕ)
   pub written : Option (List ℕ)
@@ -91,94 +91,94 @@ Finishes closed count made sent =
 -- Turns were made. The steps have the events of these turns. The bytes that came are those of the
 -- turns, and all bytes that the steps handed out were written.
 pub record Turns {X : Type 0} (steps_to : X → HubEvent → HubReply → X → Type 0) (conn : Conn)
-    (last : Option ℕ) (turns : List Turn) (x y : X) (a b : Outside) : Type 0 where
+    (last : Option ℕ) (turns : List Turn) (old new : X) (before after : Outside) : Type 0 where
   pub made : List Made
-  pub chain : Chain steps_to x made y
+  pub chain : Chain steps_to old made new
   pub events : map (λ m. m.event) made ≡ turns_events conn last turns
-  pub times : Appends a.reported b.reported (map (λ t. t.time) turns)
-  pub comes : Consumes a.coming b.coming (flat_map (λ t. t.piece) turns)
-  pub goes : Appends a.written b.written (flat_map handed made)
+  pub times : Appends before.reported after.reported (map (λ t. t.time) turns)
+  pub comes : Consumes before.coming after.coming (flat_map (λ t. t.piece) turns)
+  pub goes : Appends before.written after.written (flat_map handed made)
 
 -- One turn was made. The broker then knows its time.
 abbrev pub Turned : {X : Type 0} → (X → HubEvent → HubReply → X → Type 0) → Conn → Option ℕ
     → Option ℕ → X → X → Outside → Outside → Type 0
-Turned steps_to conn last told x y a b =
-    (turn : Turn) × (told ≡ Some turn.time) × Turns steps_to conn last (turn ∷ []) x y a b
+Turned steps_to conn last told old new before after =
+    (turn : Turn) × (told ≡ Some turn.time) × Turns steps_to conn last (turn ∷ []) old new before after
 
 -- Turns were made, and the last one is the end of the connection.
 pub record Ends {X : Type 0} (steps_to : X → HubEvent → HubReply → X → Type 0) (conn : Conn)
-    (last : Option ℕ) (x y : X) (a b : Outside) : Type 0 where
+    (last : Option ℕ) (old new : X) (before after : Outside) : Type 0 where
   pub turns : List Turn
   pub made : List Made
-  pub chain : Chain steps_to x made y
+  pub chain : Chain steps_to old made new
   pub events : map (λ m. m.event) made ≡ turns_events conn last turns
-  pub times : Appends a.reported b.reported (map (λ t. t.time) turns)
-  pub comes : Consumes a.coming b.coming (flat_map (λ t. t.piece) turns)
+  pub times : Appends before.reported after.reported (map (λ t. t.time) turns)
+  pub comes : Consumes before.coming after.coming (flat_map (λ t. t.piece) turns)
   pub sent : List ℕ
-  pub goes : Appends a.written b.written sent
-  pub finishes : Finishes b.closed (length turns) made sent
+  pub goes : Appends before.written after.written sent
+  pub finishes : Finishes after.closed (length turns) made sent
 
 -- Turns were made until a step was refused, in the last turn.
 pub record Stops {X : Type 0} (steps_to : X → HubEvent → HubReply → X → Type 0) (conn : Conn)
-    (last : Option ℕ) (x y : X) (a b : Outside) : Type 0 where
+    (last : Option ℕ) (old new : X) (before after : Outside) : Type 0 where
   pub turns : List Turn
   pub made : List Made
   pub rest : List HubEvent
-  pub chain : Chain steps_to x made y
+  pub chain : Chain steps_to old made new
   pub events : map (λ m. m.event) made ++ rest ≡ turns_events conn last turns
-  pub times : Appends a.reported b.reported (map (λ t. t.time) turns)
-  pub comes : Consumes a.coming b.coming (flat_map (λ t. t.piece) turns)
-  pub goes : Appends a.written b.written (flat_map handed made)
+  pub times : Appends before.reported after.reported (map (λ t. t.time) turns)
+  pub comes : Consumes before.coming after.coming (flat_map (λ t. t.piece) turns)
+  pub goes : Appends before.written after.written (flat_map handed made)
 
 -- A connection was opened, served in turns, and ended.
 pub record Closes {X : Type 0} (steps_to : X → HubEvent → HubReply → X → Type 0) (conn : Conn)
-    (x y : X) (a b : Outside) : Type 0 where
+    (old new : X) (before after : Outside) : Type 0 where
   pub turns : List Turn
   pub made : List Made
   pub reply : HubReply
-  pub chain : Chain steps_to x (made ++ record { event = Ended conn; reply = reply } ∷ []) y
+  pub chain : Chain steps_to old (made ++ record { event = Ended conn; reply = reply } ∷ []) new
   pub events : map (λ m. m.event) made ≡ Opened conn ∷ turns_events conn None turns
-  pub times : Appends a.reported b.reported (map (λ t. t.time) turns)
-  pub comes : Consumes a.coming b.coming (flat_map (λ t. t.piece) turns)
+  pub times : Appends before.reported after.reported (map (λ t. t.time) turns)
+  pub comes : Consumes before.coming after.coming (flat_map (λ t. t.piece) turns)
   pub sent : List ℕ
-  pub goes : Appends a.written b.written sent
-  pub finishes : Finishes b.closed (length turns) made sent
+  pub goes : Appends before.written after.written sent
+  pub finishes : Finishes after.closed (length turns) made sent
 
 -- A step of a connection was refused: `rest` are the events for which no step was made. All bytes
 -- that the steps handed out were written, unless the stream is closed.
 pub record Breaks {X : Type 0} (steps_to : X → HubEvent → HubReply → X → Type 0) (conn : Conn)
-    (x y : X) (a b : Outside) : Type 0 where
+    (old new : X) (before after : Outside) : Type 0 where
   pub turns : List Turn
   pub made : List Made
   pub rest : List HubEvent
-  pub chain : Chain steps_to x made y
+  pub chain : Chain steps_to old made new
   pub events : map (λ m. m.event) made ++ rest
       ≡ Opened conn ∷ (turns_events conn None turns ++ Ended conn ∷ [])
-  pub times : Appends a.reported b.reported (map (λ t. t.time) turns)
-  pub comes : Consumes a.coming b.coming (flat_map (λ t. t.piece) turns)
+  pub times : Appends before.reported after.reported (map (λ t. t.time) turns)
+  pub comes : Consumes before.coming after.coming (flat_map (λ t. t.piece) turns)
   pub sent : List ℕ
   pub unsent : List ℕ
   pub cut : flat_map handed made ≡ sent ++ unsent
-  pub whole : (unsent ≡ []) ⊎ (b.closed ≡ true)
-  pub goes : Appends a.written b.written sent
+  pub whole : (unsent ≡ []) ⊎ (after.closed ≡ true)
+  pub goes : Appends before.written after.written sent
 
 -- These events made steps, which handed out no bytes.
 pub record Makes {X : Type 0} (steps_to : X → HubEvent → HubReply → X → Type 0)
-    (events : List HubEvent) (x y : X) : Type 0 where
+    (events : List HubEvent) (old new : X) : Type 0 where
   pub made : List Made
-  pub chain : Chain steps_to x made y
+  pub chain : Chain steps_to old made new
   pub are : map (λ m. m.event) made ≡ events
   pub hands : flat_map handed made ≡ []
 
 -- Output was collected and written. The connection continues if all of it was written and the
 -- broker keeps the connection open; otherwise the broker closed it, or the stream is closed.
 pub record Collects {X : Type 0} (steps_to : X → HubEvent → HubReply → X → Type 0) (conn : Conn)
-    (goes_on closed : Bool) (x y : X) (a b : Option (List ℕ)) : Type 0 where
+    (goes_on closed : Bool) (old new : X) (before after : Option (List ℕ)) : Type 0 where
   pub reply : HubReply
-  pub collects : steps_to x (Collect conn) reply y
+  pub collects : steps_to old (Collect conn) reply new
   pub sent : List ℕ
   pub unsent : List ℕ
   pub parts : reply.output ≡ sent ++ unsent
-  pub goes : Appends a b sent
+  pub goes : Appends before after sent
   pub on : goes_on ≡ true → (unsent ≡ []) × (reply.alive ≡ true)
   pub off : goes_on ≡ false → ((unsent ≡ []) × (reply.alive ≡ false)) ⊎ (closed ≡ true)

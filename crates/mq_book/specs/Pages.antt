@@ -1,4 +1,4 @@
--- What contracts see of a book, a journal and a share.
+-- A book, a journal and a share, as contracts see them.
 use Rattle.std.specs.Prelude.{◌≡◌, ℕ, zero, suc, ◌+◌, ◌*◌, ◌^◌, ◌≤◌, ◌⊎◌, List, [], ◌∷◌, ◌++◌, length, Option, Some, None}
 use Rattle.std.specs.List.{sum_by}
 use Rattle.mq_route.specs.declared.event.HubEvent.{HubEvent}
@@ -107,7 +107,7 @@ abbrev pub RefusedOn : OnFull → Pages → HubEvent → BookRefusal → Type 0
 RefusedOn Stop book event why = RefusedAs book event why
 RefusedOn Checkpoint book event why = RefusedAs (after_checkpoint book) event why
 
--- the numbers below n, ascending
+-- the numbers below a count, ascending
 abbrev pub below : ℕ → List ℕ
 below zero = []
-below (suc n) = below n ++ n ∷ []
+below (suc count) = below count ++ count ∷ []

@@ -7,5 +7,5 @@ use Rattle.mq_book.specs.declared.entry.Entry.{Entry}
 -- The entries lead from the base to the hub: each one is a step with its event and its reply.
 abbrev pub Replay : HubState → List Entry → HubState → Type 0
 Replay base [] hub = base ≡ hub
-Replay base (e ∷ es) hub =
-    (next : HubState) × HubStep base e.event e.reply next × Replay next es hub
+Replay base (entry ∷ rest) hub =
+    (next : HubState) × HubStep base entry.event entry.reply next × Replay next rest hub

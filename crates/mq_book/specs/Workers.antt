@@ -37,15 +37,15 @@ pub record WorkerState : Type 0 where
   pub observed : Option (List HubReply)
 
 -- A step of a worker: its event made a step of the shared book, and its observer saw the reply.
-pub record WorkerStep (w : WorkerState) (event : HubEvent) (reply : HubReply) (w2 : WorkerState)
+pub record WorkerStep (old : WorkerState) (event : HubEvent) (reply : HubReply) (new : WorkerState)
     : Type 0 where
   pub receipt : Receipt
-  pub made : IsReceipt w.worker event receipt
+  pub made : IsReceipt old.worker event receipt
   pub said : receipt.reply ≡ reply
-  pub worker : w2.worker ≡ w.worker
-  pub count : w2.count ≡ w.count + 1
-  pub on_full : w2.on_full ≡ w.on_full
-  pub observed : Observes w.observed w2.observed reply
+  pub worker : new.worker ≡ old.worker
+  pub count : new.count ≡ old.count + 1
+  pub on_full : new.on_full ≡ old.on_full
+  pub observed : Observes old.observed new.observed reply
 
 -- The same for a worker that keeps receipts.
 pub record AuditedWorkerState : Type 0 where
@@ -55,22 +55,22 @@ pub record AuditedWorkerState : Type 0 where
   pub observed : Option (List HubReply)
   pub receipts : List Receipt
 
-pub record AuditedStep (w : AuditedWorkerState) (event : HubEvent) (reply : HubReply)
-    (w2 : AuditedWorkerState) : Type 0 where
+pub record AuditedStep (old : AuditedWorkerState) (event : HubEvent) (reply : HubReply)
+    (new : AuditedWorkerState) : Type 0 where
   pub receipt : Receipt
-  pub made : IsReceipt w.worker event receipt
+  pub made : IsReceipt old.worker event receipt
   pub said : receipt.reply ≡ reply
-  pub worker : w2.worker ≡ w.worker
-  pub count : w2.count ≡ w.count + 1
-  pub on_full : w2.on_full ≡ w.on_full
-  pub observed : Observes w.observed w2.observed reply
-  pub receipts : w2.receipts ≡ w.receipts ++ receipt ∷ []
+  pub worker : new.worker ≡ old.worker
+  pub count : new.count ≡ old.count + 1
+  pub on_full : new.on_full ≡ old.on_full
+  pub observed : Observes old.observed new.observed reply
+  pub receipts : new.receipts ≡ old.receipts ++ receipt ∷ []
 
 -- A worker made steps, at least this number. It counted each one and kept a receipt for it.
-pub record Worked (least : ℕ) (w w2 : AuditedWorkerState) : Type 0 where
+pub record Worked (least : ℕ) (old new : AuditedWorkerState) : Type 0 where
   pub more : List Receipt
-  pub added : w2.receipts ≡ w.receipts ++ more
-  pub own : AllByRecursion (λ r. r.worker ≡ w.worker) more
-  pub same : w2.worker ≡ w.worker
-  pub counted : w2.count ≡ w.count + length more
+  pub added : new.receipts ≡ old.receipts ++ more
+  pub own : AllByRecursion (λ receipt. receipt.worker ≡ old.worker) more
+  pub same : new.worker ≡ old.worker
+  pub counted : new.count ≡ old.count + length more
   pub enough : least ≤ length more

@@ -7,7 +7,7 @@ use crate::entry::{Entry, Receipt};
 use crate::entry_log::EntryLog;
 use crate::journal::Journal;
 use crate::refusal::BookRefusal;
-use crate::reply::{refusal, step_twice};
+use crate::reply::step_twice;
 use crate::share::Share;
 use crate::work_end::OnFull;
 use mq_hub::Hub;
@@ -80,7 +80,7 @@ impl<L: Ledger> Book<L> {
 
     /// Makes the broker's step for a worker's event and adds an entry to the journal.
     ///
-    /// Errors, of which the first that applies is returned with the event:
+    /// Errors: the first failing check, with the event:
     /// - `Hub` if the broker refuses the event;
     /// - `JournalFull` if the journal is full, or if no further place fits into a `u64`;
     /// - `Memory` if an allocation fails.
@@ -102,7 +102,7 @@ impl<L: Ledger> Book<L> {
         ensures refused { IfErr result (λ e. RefusedAs self.old event e.0) }
         ensures right { OnOk result ((event_refusal event self.old.hub ≡ None) × (length self.old.entries < self.old.limit)) }
     {
-        if let Some(why) = refusal(&self.hub, &event) {
+        if let Some(why) = self.hub.refusal(&event) {
             return Err((BookRefusal::Hub(why), event));
         }
         let length = self.log.len();

@@ -12,7 +12,7 @@ use std::alloc::Global;
 
 /// Makes the steps of a broker.
 pub trait Stepper {
-    /// What a step is: it leads from one state of this to another, by an event and its reply.
+    /// Defines a step, from one state to another, by an event and its reply.
     ghost steps_to: { Self → HubEvent → HubReply → Self → Type 0 };
 
     /// Why no step is made for an event.
@@ -25,7 +25,7 @@ pub trait Stepper {
         ensures stop { IfErr result (λ why. stops self.old event why) };
 }
 
-/// Where connections come from.
+/// A source of connections.
 pub trait ConnectionSource {
     /// The stream of a connection. Its reads have a time limit.
     type Stream: Stream + Drop;
@@ -79,8 +79,8 @@ fn take_in<S: Stepper>(
     Ok(())
 }
 
-// Collects the pending output of a connection and writes it. Returns whether the connection goes
-// on.
+// Collects the pending output of a connection and writes it. Returns whether the connection
+// continues.
 #[tactic(auto, using(crate::proofs::Connections::collected, crate::proofs::Connections::collected_cut))]
 fn give_out<S: Stepper, T: Stream>(
     stepper: &mut S,
@@ -102,7 +102,7 @@ fn give_out<S: Stepper, T: Stream>(
 }
 
 // One turn: reads, passes the time and the bytes to the broker, and writes its output. Returns
-// whether the connection goes on.
+// whether the connection continues.
 fn turn<S: Stepper, T: Stream, C: Clock>(
     stepper: &mut S,
     alloc: Global,

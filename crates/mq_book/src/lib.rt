@@ -4,8 +4,8 @@
 //!
 //! A call that may allocate says so in its return type; other calls never allocate.
 //! On `Err` the receiver is unchanged unless stated otherwise. The definitions of the contracts are
-//! in `specs/`: `Pages` (a book and its journal), `Replays` (what a journal says), `Receipts`,
-//! `Connection` (the events of a connection) and `Workers` (the steps of a worker).
+//! in `specs/`: `Pages` (a book and its journal), `Replays` (the contents of a journal),
+//! `Receipts`, `Connection` (the events of a connection) and `Workers` (the steps of a worker).
 #![tactic(auto)]
 
 mod audited_worker;

@@ -86,23 +86,6 @@ impl SharedReply {
     }
 }
 
-// Why a broker refuses an event, unless an allocation fails.
-pub(crate) fn refusal<S: FilterStore>(hub: &HubOver<S>, event: &HubEvent) -> Option<HubRefusal>
-    ensures { result ≡ event_refusal event.now hub.now }
-{
-    match event {
-        HubEvent::Opened(conn) if hub.knows(*conn) => Some(HubRefusal::ConnInUse),
-        HubEvent::Opened(_) | HubEvent::Tick(_) => None,
-        HubEvent::Bytes(conn, _) | HubEvent::Ended(conn) | HubEvent::Collect(conn) => {
-            if hub.knows(*conn) {
-                None
-            } else {
-                Some(HubRefusal::UnknownConn)
-            }
-        }
-    }
-}
-
 /// Makes a step as [`HubOver::step`] does, and returns its reply twice.
 ///
 /// The two replies share one allocation, which is made before the step. On error the broker is
@@ -119,7 +102,7 @@ pub fn step_twice<S: FilterStore, R: Wait>(
     ensures memory { event_refusal event.now hub.old ≡ None → IfErr result (λ why. why ≡ HubRefusal.Memory) }
     ensures err { OnErr result (hub.new ≡ hub.old) }
 {
-    if let Some(why) = refusal(hub, event) {
+    if let Some(why) = hub.refusal(event) {
         return Err(why);
     }
     let Ok(mut reply) = SharedReply::room(alloc) else {

@@ -12,6 +12,9 @@ use std::sync::ledger::{Blank, Ledger};
 use std::sync::{Mutex, ledger};
 
 /// A book that several workers share. A worker makes a step while it holds the lock.
+///
+/// Call [`new`](SharedHub::new), then [`work`](crate::work) once for each share, then
+/// [`gather`](crate::gather).
 #[derive(Drop)]
 pub struct SharedHub<L: Ledger> {
     /// The book. Whenever the lock is free, the steps of its journal lead from its base to its

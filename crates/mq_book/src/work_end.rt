@@ -33,7 +33,7 @@ impl From<BookRefusal> for WorkEnd {
     }
 }
 
-/// What a worker does when the journal is full.
+/// The action of a worker if the journal is full.
 #[derive(Clone, Copy, Debug, PartialEq, Eq)]
 pub enum OnFull {
     /// It makes no further step.

@@ -4,7 +4,7 @@ use Rattle.std.specs.Prelude.{◌↔◌, false, IsTrue, Option, None, Some}
 use Rattle.std.specs.List.{AllByRecursion, flat_map}
 use Rattle.std.proofs.Math.Seq.{drop-append_seam}
 use Rattle.mq_bytes.specs.declared.items.ItemKind.{ItemKind}
-use Rattle.mq_bytes.specs.Items.{AreItems, IsItem}
+use Rattle.mq_bytes.specs.Inside.Items.{AreItems, IsItem}
 
 -- What `item_size` says of an item at the front.
 abbrev pub Complete : ItemKind → List ℕ → Option ℕ → Type 0

@@ -18,7 +18,7 @@ use Rattle.mq_packet.specs.Encoding.{code_fields, request_fields}
 use Rattle.mq_decode.proofs.ListLaws.{code_back, code_exact, qos_back, qos_exact}
 use Rattle.mq_bytes.specs.declared.items.ItemKind.{ItemKind}
 use Rattle.mq_bytes.specs.declared.items.ItemKind.TheVariants as kinds
-use Rattle.mq_bytes.specs.Items.{IsItem}
+use Rattle.mq_bytes.specs.Inside.Items.{IsItem}
 
 -- The text that is read, if a filter is at the front.
 filter_reads : TextLaws → (f rest b : List ℕ) → IsTopicFilter f → b ≡ counted f ++ rest → read_text b 0 ≡ Ok (f, 2 + length f)

@@ -19,7 +19,7 @@ use Rattle.mq_bytes.specs.declared.items.ItemKind.{ItemKind}
 use Rattle.mq_bytes.specs.declared.items.ItemKind.TheVariants as kinds
 use Rattle.mq_bytes.specs.Arguments.{IsListOf}
 use Rattle.mq_bytes.specs.Buffers.{EncodesParts, Gives}
-use Rattle.mq_bytes.specs.Items.{AreItems, IsItem, first_of, kind_number}
+use Rattle.mq_bytes.specs.Inside.Items.{AreItems, IsItem, first_of, kind_number}
 use Rattle.mq_bytes.proofs.Encoded.{parts_give}
 
 abbrev all_of : List (List ℕ) → List ℕ

@@ -11,22 +11,23 @@ use Rattle.mq_bytes.specs.declared.fault.EncodeFault.TheVariants.{Argument, TooL
 abbrev pub Filled : List ℕ → List ℕ → List ℕ → Type 0
 Filled old front new = new ≡ front ++ drop (length front) old
 
--- The first `n` bytes of `new` are the encoding of the packet, and the others are those of `old`.
-pub record Holds (p : Packet) (old new : List ℕ) (n : ℕ) : Type 0 where
-  pub within : n ≤ length old
-  pub encodes : Encodes p (take n new)
-  pub rest : drop n new ≡ drop n old
+-- The first `count` bytes of `new` are the encoding of the packet, and the others are those of
+-- `old`.
+pub record Holds (packet : Packet) (old new : List ℕ) (count : ℕ) : Type 0 where
+  pub within : count ≤ length old
+  pub encodes : Encodes packet (take count new)
+  pub rest : drop count new ≡ drop count old
   pub same : length new ≡ length old
 
--- `new` is `old` with a packet of this first byte and these fields over its first `n` bytes.
+-- `new` is `old` with a packet of this first byte and these fields over its first `count` bytes.
 abbrev pub Frames : ℕ → List ℕ → List ℕ → List ℕ → ℕ → Type 0
-Frames first body old new n =
-    Filled old (first ∷ length_bytes (length body) ++ body) new × (n ≡ encoded_size (length body))
-    × (n ≤ length old) × (length body < 2 ^ 28)
+Frames first body old new count =
+    Filled old (first ∷ length_bytes (length body) ++ body) new × (count ≡ encoded_size (length body))
+    × (count ≤ length old) × (length body < 2 ^ 28)
 
 -- The result of writing such a packet.
 abbrev pub EncodesParts : ℕ → List ℕ → List ℕ → List ℕ → Result ℕ EncodeFault → Type 0
-EncodesParts first body old new (Ok n) = Frames first body old new n
+EncodesParts first body old new (Ok count) = Frames first body old new count
 EncodesParts first body old new (Err TooLarge) = (2 ^ 28 ≤ length body) × (new ≡ old)
 EncodesParts first body old new (Err Room) =
     (length old < encoded_size (length body)) × (new ≡ old)
@@ -36,9 +37,9 @@ EncodesParts first body old new (Err Argument) = ⊥
 -- error, and the buffer is unchanged. `TooLarge`: its remaining length would exceed 268,435,455
 -- (2.2.3). `Room`: it is longer than the buffer. `Argument`: there is no such packet.
 abbrev pub Gives : (Packet → Type 0) → List ℕ → List ℕ → Result ℕ EncodeFault → Type 0
-Gives Is old new (Ok n) = (p : Packet) × Is p × Holds p old new n
+Gives Is old new (Ok count) = (packet : Packet) × Is packet × Holds packet old new count
 Gives Is old new (Err TooLarge) =
-    (p : Packet) × Is p × (2 ^ 28 ≤ length (fields p)) × (new ≡ old)
+    (packet : Packet) × Is packet × (2 ^ 28 ≤ length (fields packet)) × (new ≡ old)
 Gives Is old new (Err Room) =
-    (p : Packet) × Is p × (length old < encoded_size (length (fields p))) × (new ≡ old)
-Gives Is old new (Err Argument) = ((p : Packet) → IsPacket p → Is p → ⊥) × (new ≡ old)
+    (packet : Packet) × Is packet × (length old < encoded_size (length (fields packet))) × (new ≡ old)
+Gives Is old new (Err Argument) = ((packet : Packet) → IsPacket packet → Is packet → ⊥) × (new ≡ old)

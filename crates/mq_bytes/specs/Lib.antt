@@ -1,7 +1,6 @@
 pub mod Arguments
 pub mod Buffers
 pub mod Checks
-pub mod Connects
-pub mod Items
+pub mod Inside
 pub mod Places
 pub mod Prelude

@@ -14,7 +14,7 @@ pub use Rattle.mq_wire.specs.Text.{IsText, counted, is_special}
 pub use Rattle.mq_bytes.specs.Arguments.{IsAcknowledgementOf, IsBareOf, IsConnectOf, IsLoginOf, IsWillOf, IsListOf, IsConnAckOf, IsPublishOf, MayDeliver}
 pub use Rattle.mq_bytes.specs.Buffers.{Filled, EncodesParts, Gives}
 pub use Rattle.mq_bytes.specs.Checks.{IsRefused, IsSavedSession}
-pub use Rattle.mq_bytes.specs.Connects.{LoginWith, NoLogin, NoWill, WillWith, counted_if}
-pub use Rattle.mq_bytes.specs.Items.{AreItems, IsItem, first_of, kind_number}
+pub use Rattle.mq_bytes.specs.Inside.Connects.{LoginWith, NoLogin, NoWill, WillWith, counted_if}
+pub use Rattle.mq_bytes.specs.Inside.Items.{AreItems, IsItem, first_of, kind_number}
 pub use Rattle.mq_bytes.specs.Places.{Lies, ShowsConnect, ShowsLogin, ShowsPassword, ShowsWill, IsLocated, ShowsPublish, dup_of, Shows, ShowsConnAck, ShowsList, ShowsNumber, identifier_of}
 pub use Rattle.mq_bytes.specs.declared.places.Front.{Front}

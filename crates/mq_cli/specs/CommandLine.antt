@@ -38,8 +38,9 @@ GivesSource command name word source = (value : Text) × GivesWord command name 
 
 -- The same for a number in decimal digits, with an optional `+` in front.
 abbrev pub GivesNumber : Option (Text × List Row) → Text → Text → ℕ → Type 0
-GivesNumber command name word n =
-    (rows : List Row) × (digits : Text) × (command ≡ Some (name, rows)) × (one_of word rows ≡ Some digits) × IsNumeral 10 (without_leading_plus digits) × (digits_value 10 (without_leading_plus digits) ≡ n)
+GivesNumber command name word number =
+    (rows : List Row) × (digits : Text) × (command ≡ Some (name, rows)) × (one_of word rows ≡ Some digits)
+    × IsNumeral 10 (without_leading_plus digits) × (digits_value 10 (without_leading_plus digits) ≡ number)
 
 -- The value of a flag: whether it was given.
 pub record IsFlag (value : Option Text) (flag : Bool) : Type 0 where
@@ -119,8 +120,8 @@ pub record IsCollect (command : Option (Text × List Row)) (collect : Collect) :
 
 -- the number of this argument of `broker`, or its default if it was not given
 abbrev pub IsLimit : Option (Text × List Row) → Text → ℕ → ℕ → Type 0
-IsLimit command word default n =
-    GivesNumber command (codes "broker") word n ⊎ (HasWord command (codes "broker") word None × (n ≡ default))
+IsLimit command word default limit =
+    GivesNumber command (codes "broker") word limit ⊎ (HasWord command (codes "broker") word None × (limit ≡ default))
 
 -- a word is `never`, or a number of seconds that is not 0
 abbrev pub IsTime : Text → Option ℕ → Type 0

@@ -7,7 +7,7 @@ use Rattle.clap.specs.declared.builder.action.ArgAction.TheVariants.{Append, Set
 use Rattle.clap.specs.declared.builder.value_parser.ValueParser.{ValueParser}
 use Rattle.clap.specs.declared.builder.value_parser.ValueParser.TheVariants.{Signed, Unsigned}
 
--- a command with one word, which has to be there
+-- a command with one argument, which is required
 abbrev pub word_words : Text → Text → App
 word_words name word = with_rule (new_app name) (record (new_rule word) { required = true })
 
@@ -39,7 +39,7 @@ show_words = with_rule (with_rule (with_rule (new_app (codes "show")) (new_rule 
 abbrev pub replay_words : App
 replay_words = with_rule (word_words (codes "replay") (codes "FILE")) (file_rule (codes "SVG") (codes "svg"))
 
--- an option with a number of this kind, which has to be there
+-- an option with a number of this kind, which is required
 abbrev pub number_rule : Text → Text → ValueParser → Rule
 number_rule word name kind = record (new_rule word) { long = Some name; parser = Some kind; required = true }
 
@@ -47,7 +47,7 @@ number_rule word name kind = record (new_rule word) { long = Some name; parser =
 abbrev pub random_words : App
 random_words = with_rule (with_rule (new_app (codes "random")) (number_rule (codes "START") (codes "start") (Unsigned 0 18446744073709551615))) (number_rule (codes "STEPS") (codes "steps") (Signed (pos 0) (pos 4294967295)))
 
--- an option with a text, which has to be there
+-- an option with a text, which is required
 abbrev pub text_rule : Text → Text → Rule
 text_rule word name = record (new_rule word) { long = Some name; required = true }
 

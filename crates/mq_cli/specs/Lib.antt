@@ -3,9 +3,9 @@ pub mod Count
 pub mod Failure
 pub mod Grammar
 pub mod Hexadecimal
+pub mod Inside
 pub mod Prelude
 pub mod Printed
-pub mod Random
 pub mod Show
 pub mod Status
 pub mod Stops

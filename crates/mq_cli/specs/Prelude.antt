@@ -21,7 +21,7 @@ pub use Rattle.mq_cli.specs.Failure.{failure_status, IsOutputFailure}
 pub use Rattle.mq_cli.specs.Grammar.{broker_words, limit_rule, with_data, with_extras, with_journal, with_limits, with_logs, with_patience, with_sessions, with_tables, bare_words, check_words, client_words, collect_words, command_named, file_rule, flag_rule, job_words, lenient_rule, match_words, number_rule, port_rule, program_words, publish_words, qos_rule, random_words, replay_words, serve_words, served_words, show_words, socket_words, stream_words, text_rule, texts_rule, word_words}
 pub use Rattle.mq_cli.specs.Hexadecimal.{IsHexadecimal}
 pub use Rattle.mq_cli.specs.Printed.{bad_hex, count_end_lines, count_lines, end_lines, fault_line, file_not_read, match_line, no_memory, packet_line, packets_line, shown_lines, topic_line, bad_line}
-pub use Rattle.mq_cli.specs.Random.{event_line, event_of}
+pub use Rattle.mq_cli.specs.Inside.Random.{event_line, event_of}
 pub use Rattle.mq_cli.specs.Show.{Reads, Shows}
 pub use Rattle.mq_cli.specs.Status.{IsCheckDone, IsDone, IsMatchDone, IsShowDone, count_status, end_status, match_status, widest, IsRandomDone, IsReplayDone, IsTextReplayed, IsStreamShown, end_of_rest}
 pub use Rattle.mq_cli.specs.Stops.{OnIo, OnMemory}

@@ -33,7 +33,7 @@ packet_line packet = packet_text packet ++ codes "\n"
 
 abbrev pub end_lines : StreamEnd → List ℕ
 end_lines Whole = []
-end_lines (Held n) = codes "held " ++ (decimal n ++ codes "\n")
+end_lines (Held count) = codes "held " ++ (decimal count ++ codes "\n")
 end_lines (Fault fault start) = fault_line fault start
 
 -- the packets in order, and how they end

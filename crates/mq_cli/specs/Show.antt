@@ -12,7 +12,7 @@ use Rattle.mq_cli.specs.declared.stream.Shown.{Shown}
 -- that begins at the end of the packets.
 abbrev pub Reads : Bounds → List ℕ → List Packet → StreamEnd → Type 0
 Reads limits bytes packets Whole = Reading limits bytes packets [] None
-Reads limits bytes packets (Held n) = (rest : List ℕ) × Reading limits bytes packets rest None × (n ≡ length rest) × (0 < n)
+Reads limits bytes packets (Held count) = (rest : List ℕ) × Reading limits bytes packets rest None × (count ≡ length rest) × (0 < count)
 Reads limits bytes packets (Fault fault start) = (rest : List ℕ) × Reading limits bytes packets rest (Some fault) × (start + length rest ≡ length bytes)
 
 -- the packets are the first of these bytes

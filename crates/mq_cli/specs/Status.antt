@@ -30,7 +30,7 @@ use Rattle.mq_replay.specs.Replay.{IsCutReplay, IsReplay}
 -- 0 if all bytes are packets.
 abbrev pub end_status : StreamEnd → ℕ
 end_status Whole = 0
-end_status (Held n) = 1
+end_status (Held count) = 1
 end_status (Fault fault start) = 1
 
 -- 0 if all bytes of a file are packets.

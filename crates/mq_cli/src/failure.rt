@@ -11,7 +11,7 @@ use thiserror::Error;
 /// Why the program ends without a result.
 #[derive(Clone, Copy, Debug, PartialEq, Eq, Error)]
 pub enum Failure {
-    /// A word of the command line is not UTF-8.
+    /// An argument is not UTF-8.
     #[error("words not read: one is not UTF-8")]
     Words,
     /// Memory ran out.
@@ -26,7 +26,7 @@ pub enum Failure {
 }
 
 impl Failure {
-    /// The status that the program ends with: 2 for words, 3 for memory, 4 for the output.
+    /// The exit status of the program: 2 for arguments, 3 for memory, 4 for the output.
     pub fn status(self) -> u8
         ensures { result ≡ failure_status self }
     {
@@ -37,7 +37,7 @@ impl Failure {
         }
     }
 
-    /// Why the words of the command line could not be had: memory ran out, or one is not UTF-8.
+    /// Why the arguments could not be read: out of memory, or one is not UTF-8.
     pub fn of_words(error: io::Error) -> Failure
         ensures memory { error_kind error ≡ ErrorKind.OutOfMemory → result ≡ Failure.Memory }
         ensures words { error_kind error ≢ ErrorKind.OutOfMemory → result ≡ Failure.Words }

@@ -1,5 +1,8 @@
-//! The program `mqtt` as calls: the words of its command line are read, and its jobs are done over
-//! any input and writer.
+//! The command line of `mqtt` as functions: parses the arguments, and runs jobs over any input and
+//! writer.
+//!
+//! A call that may allocate says so in its return type; other calls never allocate.
+//! On `Err` the receiver is unchanged unless stated otherwise.
 #![tactic(auto)]
 
 mod advice;

@@ -1,4 +1,4 @@
-//! The words of the command line.
+//! The arguments of the command line.
 
 ghost use Rattle.std.specs.Prelude.{◌≡◌, ◌≤◌, ◌≢◌, [], None, codes, map, option_map, true, IfOk, IfSome};
 ghost use Rattle.mq_cli.specs.Prelude.{subcommand_of, subcommand_rows_of, GivesFlag, GivesId, GivesNumber, GivesQos, GivesSource, GivesTexts, GivesWord, HasWord, IsCollect, IsCommandOf, IsDigitsJob, IsDraw, IsJobOf, IsMet, IsPublish, IsServe, IsSource, program_words};
@@ -19,7 +19,7 @@ const MOST_WORKERS: u8 = 64;
 /// The most bytes that a client identifier has (1.5.3).
 const MOST_ID: usize = 65_535;
 
-/// Why words are no command.
+/// Why the arguments are not a command.
 #[derive(Debug, Drop, Error)]
 pub enum WordsFault {
     /// They ask for help or for the version, or they can't be read. The error says which, has the

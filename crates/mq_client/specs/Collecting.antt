@@ -45,7 +45,7 @@ pub record IsAnswered (granted : Bool) (told : List Happening) : Type 0 where
 -- the message that is delivered to the application
 abbrev pub handed : Happening → List Message
 handed (happens.Up present) = []
-handed (happens.Handed m) = m ∷ []
+handed (happens.Handed message) = message ∷ []
 handed (happens.Subscribe id requests) = []
 handed (happens.Unsubscribe id filters) = []
 handed (happens.SubAck id given) = []
@@ -56,40 +56,40 @@ handed happens.Pong = []
 -- happenings of the last read may be missing.
 abbrev pub Misses : Result ⊤ ClientError → List Happening → List CloseReason → Type 0
 Misses (Err Memory) rest reasons = ⊤
-Misses r rest reasons = (rest ≡ []) × Closes r reasons
+Misses result rest reasons = (rest ≡ []) × Closes result reasons
 
 -- These requests were made, and the happenings were appended to a list.
-pub record Keeps (a b : Moment) (asks : List Ask) (old new : List Happening) (r : Result ⊤ ClientError) : Type 0 where
+pub record Keeps (earlier later : Moment) (asks : List Ask) (old new : List Happening) (result : Result ⊤ ClientError) : Type 0 where
   pub told : List Happening
   pub rest : List Happening
   pub reasons : List CloseReason
-  pub went : Went a b asks (told ++ rest) reasons
+  pub went : Went earlier later asks (told ++ rest) reasons
   pub kept : new ≡ old ++ told
-  pub misses : Misses r rest reasons
+  pub misses : Misses result rest reasons
 
 -- The program stopped early: only a front of these requests was made.
-pub record KeepsFirst (a b : Moment) (all : List Ask) (old new : List Happening) (r : Result ⊤ ClientError) : Type 0 where
+pub record KeepsFirst (earlier later : Moment) (all : List Ask) (old new : List Happening) (result : Result ⊤ ClientError) : Type 0 where
   pub asks : List Ask
   pub rest : List Ask
   pub parts : all ≡ asks ++ rest
-  pub keeps : Keeps a b asks old new r
+  pub keeps : Keeps earlier later asks old new result
 
 -- No delivered message is acknowledged: since the first one was delivered, nothing was sent.
-pub record Unacknowledged (a b : Moment) : Type 0 where
+pub record Unacknowledged (earlier later : Moment) : Type 0 where
   pub last : Moment
   pub asks : List Ask
   pub more : List Ask
   pub told : List Happening
   pub rest : List Happening
   pub reasons : List CloseReason
-  pub before : Went a last asks told []
+  pub before : Went earlier last asks told []
   pub none : flat_map handed told ≡ []
-  pub after : Went last b more rest reasons
-  pub silent : Silent last.written b.written
+  pub after : Went last later more rest reasons
+  pub silent : Silent last.written later.written
 
 -- The output failed. Every message until `last` is printed after a first line, and nothing was sent
 -- since. So a message that may not be printed is not acknowledged (4.3.2, 4.3.3).
-pub record Unprinted (a b : Moment) (line : List ℕ) (old new : Option (List ℕ)) : Type 0 where
+pub record Unprinted (earlier later : Moment) (line : List ℕ) (old new : Option (List ℕ)) : Type 0 where
   pub last : Moment
   pub asks : List Ask
   pub more : List Ask
@@ -97,9 +97,9 @@ pub record Unprinted (a b : Moment) (line : List ℕ) (old new : Option (List �
   pub rest : List Happening
   pub closed : List CloseReason
   pub reasons : List CloseReason
-  pub before : Went a last asks told closed
-  pub after : Went last b more rest reasons
-  pub silent : Silent last.written b.written
+  pub before : Went earlier last asks told closed
+  pub after : Went last later more rest reasons
+  pub silent : Silent last.written later.written
   pub front : List ℕ
   pub printed : Appends old new (line ++ (flat_map told_line told ++ front))
 
@@ -109,46 +109,46 @@ Grows old new = (text : List ℕ) × Appends old new text
 
 -- more is needed: messages, the release of one (4.3.3), or the connection
 abbrev pub IsNeeded : ClientState → ℕ → ℕ → Type 0
-IsNeeded c delivered count =
-    (delivered < count) ⊎ ((c.link.end.received ≡ none_received → ⊥) ⊎ (is_up c.link.end.state ≡ false))
+IsNeeded client delivered count =
+    (delivered < count) ⊎ ((client.link.end.received ≡ none_received → ⊥) ⊎ (is_up client.link.end.state ≡ false))
 
 -- Nothing was read, or the last read was needed: before it, there was a reason to continue.
-pub record IsJust (a : Moment) (told : List Happening) (count : ℕ) : Type 0 where
+pub record IsJust (earlier : Moment) (told : List Happening) (count : ℕ) : Type 0 where
   pub last : Moment
   pub before : List Happening
   pub after : List Happening
   pub parts : told ≡ before ++ after
-  pub went : Went a last [] before []
+  pub went : Went earlier last [] before []
   pub needed : (after ≡ []) ⊎ IsNeeded last.client (length (flat_map handed before)) count
 
 -- The happenings are printed. If all went well, at least `count` messages were delivered, and each
 -- read was needed for that; every message is released (4.3.3), and the end is connected.
-pub record Gathers (a b : Moment) (old new : Option (List ℕ)) (count : ℕ) (r : Result ⊤ ClientError) : Type 0 where
+pub record Gathers (earlier later : Moment) (old new : Option (List ℕ)) (count : ℕ) (result : Result ⊤ ClientError) : Type 0 where
   pub told : List Happening
   pub reasons : List CloseReason
-  pub went : Went a b [] told reasons
-  pub closes : Closes r reasons
+  pub went : Went earlier later [] told reasons
+  pub closes : Closes result reasons
   pub printed : Appends old new (flat_map told_line told)
-  pub enough : OnOk r (count ≤ length (flat_map handed told))
-  pub just : OnOk r (IsJust a told count)
-  pub released : OnOk r (b.client.link.end.received ≡ none_received)
-  pub up : OnOk r (is_up b.client.link.end.state ≡ true)
+  pub enough : OnOk result (count ≤ length (flat_map handed told))
+  pub just : OnOk result (IsJust earlier told count)
+  pub released : OnOk result (later.client.link.end.received ≡ none_received)
+  pub up : OnOk result (is_up later.client.link.end.state ≡ true)
 
 -- A connection began, and the subscription was requested once and granted. At least `count`
 -- messages were delivered, and each read was needed for that. All messages are released. Then the
 -- client left. `subscribed` is printed, and then each message.
-pub record Collected (a b : Moment) (clean : Bool) (goal : CollectGoal) (text : List ℕ) : Type 0 where
+pub record Collected (earlier later : Moment) (clean : Bool) (goal : CollectGoal) (text : List ℕ) : Type 0 where
   pub granted : Moment
   pub last : Moment
   pub first : List Happening
   pub more : List Happening
-  pub begun : Went a granted (collects clean goal) first []
+  pub begun : Went earlier granted (collects clean goal) first []
   pub went : Went granted last [] more []
   pub answered : IsAnswered true first
   pub enough : goal.count ≤ length (flat_map handed (first ++ more))
   pub just : IsJust granted more (goal.count - length (flat_map handed first))
   pub released : last.client.link.end.received ≡ none_received
-  pub leaves : Leaves last b
+  pub leaves : Leaves last later
   pub lines : text ≡ subscribed_line ++ flat_map told_line (first ++ more)
 
 -- `subscribed` is printed if the subscription was granted, and otherwise nothing
@@ -157,12 +157,12 @@ IsFirstLine line told = (line ≡ []) ⊎ ((line ≡ subscribed_line) × IsAnswe
 
 -- The program stopped early. Each message that was delivered is printed, in order, and then why the
 -- program stopped. Only if memory ran out, the messages of the last read may be missing.
-pub record CollectHalts (a b : Moment) (clean : Bool) (goal : CollectGoal) (halt : ClientError) (text : List ℕ) : Type 0 where
+pub record CollectHalts (earlier later : Moment) (clean : Bool) (goal : CollectGoal) (halt : ClientError) (text : List ℕ) : Type 0 where
   pub asks : List Ask
   pub told : List Happening
   pub rest : List Happening
   pub reasons : List CloseReason
-  pub went : Went a b asks (told ++ rest) reasons
+  pub went : Went earlier later asks (told ++ rest) reasons
   pub others : List Ask
   pub asked : collects clean goal ≡ asks ++ others
   pub misses : Misses (Err halt) rest reasons
@@ -172,6 +172,6 @@ pub record CollectHalts (a b : Moment) (clean : Bool) (goal : CollectGoal) (halt
 
 -- the status and the lines of `collect`
 abbrev pub IsCollectDone : Moment → Moment → Bool → CollectGoal → ℕ → List ℕ → Type 0
-IsCollectDone a b clean goal status text =
-    (Collected a b clean goal text × (status ≡ 0))
-    ⊎ ((halt : ClientError) × CollectHalts a b clean goal halt text × (status ≡ halt_status halt))
+IsCollectDone earlier later clean goal status text =
+    (Collected earlier later clean goal text × (status ≡ 0))
+    ⊎ ((halt : ClientError) × CollectHalts earlier later clean goal halt text × (status ≡ halt_status halt))

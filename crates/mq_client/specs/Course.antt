@@ -1,6 +1,6 @@
--- What a client end at a stream does: the calls of it, in order, the bytes that it received and
--- sent, the times that its clock reported, and the sessions that were saved before bytes were sent
--- (3.1 to 3.14, 4.1, 4.2).
+-- The course of a client end at a stream: its calls in order, the bytes that it received and sent,
+-- the times that its clock reported, and the sessions that were saved before bytes were sent (3.1
+-- to 3.14, 4.1, 4.2).
 use Rattle.std.specs.Prelude.{◌≡◌, ◌⊎◌, ◌≤◌, ℕ, Bool, true, false, List, [], ◌∷◌, ◌++◌, Option, None, Result, Ok, Err, option_to_list}
 use Rattle.std.specs.List.{flat_map}
 use Rattle.std.specs.Io.KnownBytes.{Appends, Consumes}
@@ -69,74 +69,74 @@ pub data Step : Type 0 where
   -- the connection is lost (4.2)
   Lose : Step
 
-pub record Connects (now : ℕ) (clean : Bool) (a b : ClientState) : Type 0 where
-  pub end : b.link.end ≡ (connects (connect_of a.config clean) a.link.end).end
-  pub out : PutsOut (packets.Connect (connect_of a.config clean) ∷ []) [] b.link.output
-  pub held : b.link.held ≡ []
-  pub moment : b.link.last_activity ≡ now
+pub record Connects (now : ℕ) (clean : Bool) (old new : ClientState) : Type 0 where
+  pub end : new.link.end ≡ (connects (connect_of old.config clean) old.link.end).end
+  pub out : PutsOut (packets.Connect (connect_of old.config clean) ∷ []) [] new.link.output
+  pub held : new.link.held ≡ []
+  pub moment : new.link.last_activity ≡ now
 
-pub record Hears (bytes : List ℕ) (told : List Happening) (closed : Option CloseReason) (a b : ClientState) : Type 0 where
+pub record Hears (bytes : List ℕ) (told : List Happening) (closed : Option CloseReason) (old new : ClientState) : Type 0 where
   pub acknowledged : List ℕ
-  pub live : is_live a.link.end.state ≡ true → ClientReceives bytes a.link b.link told acknowledged closed
-  pub shut : is_live a.link.end.state ≡ false → (b ≡ a) × (told ≡ []) × (closed ≡ None)
+  pub live : is_live old.link.end.state ≡ true → ClientReceives bytes old.link new.link told acknowledged closed
+  pub shut : is_live old.link.end.state ≡ false → (new ≡ old) × (told ≡ []) × (closed ≡ None)
 
-pub record Publishes (m : Message) (a b : ClientState) : Type 0 where
+pub record Publishes (message : Message) (old new : ClientState) : Type 0 where
   pub answer : Option ℕ
-  pub accepts : Accepts answer m a.link b.link
+  pub accepts : Accepts answer message old.link new.link
 
-pub record Subscribes (requests : List Request) (a b : ClientState) : Type 0 where
+pub record Subscribes (requests : List Request) (old new : ClientState) : Type 0 where
   pub id : ℕ
-  pub asks : Requests id (subscribes id requests a.link.end) a.link b.link
+  pub asks : Requests id (subscribes id requests old.link.end) old.link new.link
 
-pub record Unsubscribes (filters : List (List ℕ)) (a b : ClientState) : Type 0 where
+pub record Unsubscribes (filters : List (List ℕ)) (old new : ClientState) : Type 0 where
   pub id : ℕ
-  pub asks : Requests id (unsubscribes id filters a.link.end) a.link b.link
+  pub asks : Requests id (unsubscribes id filters old.link.end) old.link new.link
 
-pub record Writes (form bytes : List ℕ) (a b : ClientState) : Type 0 where
-  pub saved : form ≡ saved_of a
+pub record Writes (form bytes : List ℕ) (old new : ClientState) : Type 0 where
+  pub saved : form ≡ saved_of old
   pub rest : List ℕ
-  pub parts : a.link.output ≡ bytes ++ rest
-  pub left : b.link ≡ record a.link { output = rest; room = no_bytes a.link.room }
+  pub parts : old.link.output ≡ bytes ++ rest
+  pub left : new.link ≡ record old.link { output = rest; room = no_bytes old.link.room }
 
-pub record Loses (a b : ClientState) : Type 0 where
-  pub end : b.link.end ≡ over a.link.end
-  pub output : b.link.output ≡ []
-  pub held : b.link.held ≡ []
+pub record Loses (old new : ClientState) : Type 0 where
+  pub end : new.link.end ≡ over old.link.end
+  pub output : new.link.output ≡ []
+  pub held : new.link.held ≡ []
 
 -- what a step does to the end
 abbrev pub Does : Step → ClientState → ClientState → Type 0
-Does (Connect now clean) a b = Connects now clean a b
-Does (Hear now bytes told closed) a b = (m : ClientState) × Ticks now a.link m.link × Hears bytes told closed m b
-Does (Publish m) a b = Publishes m a b
-Does (Subscribe requests) a b = Subscribes requests a b
-Does (Unsubscribe filters) a b = Unsubscribes filters a b
-Does (Tick now) a b = Ticks now a.link b.link
-Does (Starve now) a b = b ≡ a
-Does Leave a b = Acts (leaves a.link.end) a.link b.link
-Does (Write form bytes) a b = Writes form bytes a b
-Does Lose a b = Loses a b
+Does (Connect now clean) old new = Connects now clean old new
+Does (Hear now bytes told closed) old new = (between : ClientState) × Ticks now old.link between.link × Hears bytes told closed between new
+Does (Publish message) old new = Publishes message old new
+Does (Subscribe requests) old new = Subscribes requests old new
+Does (Unsubscribe filters) old new = Unsubscribes filters old new
+Does (Tick now) old new = Ticks now old.link new.link
+Does (Starve now) old new = new ≡ old
+Does Leave old new = Acts (leaves old.link.end) old.link new.link
+Does (Write form bytes) old new = Writes form bytes old new
+Does Lose old new = Loses old new
 
 -- steps in order
 abbrev pub Runs : ClientState → List Step → ClientState → Type 0
-Runs a [] b = b ≡ a
-Runs a (s ∷ ss) b = (m : ClientState) × Does s a m × Runs m ss b
+Runs old [] new = new ≡ old
+Runs old (step ∷ rest) new = (between : ClientState) × Does step old between × Runs between rest new
 
 -- ---- the results of steps
 
 -- the bytes that were received
 abbrev pub heard : Step → List ℕ
 heard (Hear now bytes told closed) = bytes
-heard s = []
+heard step = []
 
 -- the bytes that were sent
 abbrev pub sent : Step → List ℕ
 sent (Write form bytes) = bytes
-sent s = []
+sent step = []
 
 -- the forms that were saved before bytes were sent
 abbrev pub forms : Step → List (List ℕ)
 forms (Write form bytes) = form ∷ []
-forms s = []
+forms step = []
 
 -- the times that the clock reported
 abbrev pub readings : Step → List ℕ
@@ -144,75 +144,75 @@ readings (Connect now clean) = now ∷ []
 readings (Hear now bytes told closed) = now ∷ []
 readings (Tick now) = now ∷ []
 readings (Starve now) = now ∷ []
-readings s = []
+readings step = []
 
 -- the requests of the user
 abbrev pub asked : Step → List Ask
 asked (Connect now clean) = Opening clean ∷ []
-asked (Publish m) = Publication m ∷ []
+asked (Publish message) = Publication message ∷ []
 asked (Subscribe requests) = Subscription requests ∷ []
 asked (Unsubscribe filters) = Unsubscription filters ∷ []
-asked s = []
+asked step = []
 
 -- the happenings
 abbrev pub told : Step → List Happening
 told (Hear now bytes happenings closed) = happenings
-told s = []
+told step = []
 
 -- why the end closed
 abbrev pub closed : Step → List CloseReason
 closed (Hear now bytes happenings why) = option_to_list why
-closed s = []
+closed step = []
 
 -- Between two states the end ran through steps, with these requests, happenings and reasons to
 -- close. It received the bytes that came over the stream. The bytes that were sent are its output,
 -- and before each write the session of that state was saved. Its clock was set to each time that
 -- the clock reported, in order.
-pub record Went (a b : Moment) (asks : List Ask) (happenings : List Happening) (reasons : List CloseReason) : Type 0 where
+pub record Went (earlier later : Moment) (asks : List Ask) (happenings : List Happening) (reasons : List CloseReason) : Type 0 where
   pub steps : List Step
-  pub runs : Runs a.client steps b.client
-  pub comes : Consumes a.coming b.coming (flat_map heard steps)
-  pub goes : Appends a.written b.written (flat_map sent steps)
-  pub holds : Holds a.kept b.kept (flat_map forms steps)
-  pub clock : Appends a.times b.times (flat_map readings steps)
+  pub runs : Runs earlier.client steps later.client
+  pub comes : Consumes earlier.coming later.coming (flat_map heard steps)
+  pub goes : Appends earlier.written later.written (flat_map sent steps)
+  pub holds : Holds earlier.kept later.kept (flat_map forms steps)
+  pub clock : Appends earlier.times later.times (flat_map readings steps)
   pub asks_are : asks ≡ flat_map asked steps
   pub happenings_are : happenings ≡ flat_map told steps
   pub reasons_are : reasons ≡ flat_map closed steps
-  pub limit : b.line.limit ≡ a.line.limit
+  pub limit : later.line.limit ≡ earlier.line.limit
 
 -- only a front of these requests was made
-pub record WentFirst (a b : Moment) (all : List Ask) (happenings : List Happening) (reasons : List CloseReason) : Type 0 where
+pub record WentFirst (earlier later : Moment) (all : List Ask) (happenings : List Happening) (reasons : List CloseReason) : Type 0 where
   pub asks : List Ask
   pub rest : List Ask
   pub parts : all ≡ asks ++ rest
-  pub went : Went a b asks happenings reasons
+  pub went : Went earlier later asks happenings reasons
 
 -- The clock of the client is set to a time that the clock reports, and nothing is sent or received.
-pub record Ticked (now : ℕ) (a b : Moment) : Type 0 where
-  pub ticks : Ticks now a.client.link b.client.link
-  pub coming : b.coming ≡ a.coming
-  pub written : b.written ≡ a.written
-  pub kept : b.kept ≡ a.kept
-  pub clock : Appends a.times b.times (now ∷ [])
-  pub line : b.line ≡ a.line
+pub record Ticked (now : ℕ) (earlier later : Moment) : Type 0 where
+  pub ticks : Ticks now earlier.client.link later.client.link
+  pub coming : later.coming ≡ earlier.coming
+  pub written : later.written ≡ earlier.written
+  pub kept : later.kept ≡ earlier.kept
+  pub clock : Appends earlier.times later.times (now ∷ [])
+  pub line : later.line ≡ earlier.line
 
 -- The connection may be lost: too many reads in a row brought nothing, or the stream ended or
 -- failed.
 abbrev pub MayBeLost : Moment → Moment → Type 0
-MayBeLost a b = (a.line.limit ≤ a.line.quiet) ⊎ (b.line.closed ≡ true)
+MayBeLost earlier later = (earlier.line.limit ≤ earlier.line.quiet) ⊎ (later.line.closed ≡ true)
 
 -- The client leaves: after the pending output, DISCONNECT is sent last (3.14).
-pub record Leaves (a b : Moment) : Type 0 where
+pub record Leaves (earlier later : Moment) : Type 0 where
   pub last : List ℕ
-  pub disconnects : PutsOut (packets.Disconnect ∷ []) a.client.link.output last
-  pub goes : Appends a.written b.written last
+  pub disconnects : PutsOut (packets.Disconnect ∷ []) earlier.client.link.output last
+  pub goes : Appends earlier.written later.written last
 
 -- everything that it published is acknowledged (4.3.2, 4.3.3)
 abbrev pub IsIdle : End → Type 0
-IsIdle e = (e.book.entries ≡ []) × (e.book.released ≡ [])
+IsIdle end = (end.book.entries ≡ []) × (end.book.released ≡ [])
 
 -- a message counts as published exactly if the result is `Ok true`
 abbrev pub asked_by : Result Bool ClientError → Message → List Ask
-asked_by (Ok true) m = Publication m ∷ []
-asked_by (Ok false) m = []
-asked_by (Err error) m = []
+asked_by (Ok true) message = Publication message ∷ []
+asked_by (Ok false) message = []
+asked_by (Err error) message = []

@@ -17,67 +17,67 @@ durable bytes = Some (true, bytes)
 -- the file after a sync
 abbrev pub synced : Entry → Entry
 synced None = None
-synced (Some e) = durable e.1
+synced (Some entry) = durable entry.1
 
 abbrev pub newest : Entry → List Entry → Entry
-newest e [] = e
-newest e (f ∷ es) = newest f es
+newest entry [] = entry
+newest entry (newer ∷ rest) = newest newer rest
 
 -- the present entry of a file with this history; a file without a history is missing
 abbrev pub present : List Entry → Entry
 present [] = None
-present (e ∷ es) = newest e es
+present (entry ∷ rest) = newest entry rest
 
 -- the other files have the history that they had
 abbrev pub OthersStay : List ℕ → (List ℕ → List Entry) → (List ℕ → List Entry) → Type 0
-OthersStay name a b = (other : List ℕ) → (other ≡ name → ⊥) → b other ≡ a other
+OthersStay name before after = (other : List ℕ) → (other ≡ name → ⊥) → after other ≡ before other
 
 -- at most this file changed
 abbrev pub Touched : List ℕ → Option (List ℕ → List Entry) → Option (List ℕ → List Entry) → Type 0
 Touched name None new = new ≡ None
-Touched name (Some a) None = ⊥
-Touched name (Some a) (Some b) = OthersStay name a b
+Touched name (Some before) None = ⊥
+Touched name (Some before) (Some after) = OthersStay name before after
 
 -- the file has these bytes, which a crash may still change
 abbrev pub Wrote : List ℕ → List ℕ → Option (List ℕ → List Entry) → Option (List ℕ → List Entry) → Type 0
 Wrote name bytes None new = new ≡ None
-Wrote name bytes (Some a) None = ⊥
-Wrote name bytes (Some a) (Some b) = OthersStay name a b × (present (b name) ≡ volatile bytes)
+Wrote name bytes (Some before) None = ⊥
+Wrote name bytes (Some before) (Some after) = OthersStay name before after × (present (after name) ≡ volatile bytes)
 
 -- the bytes of the file are on the disk
 abbrev pub Synced : List ℕ → Option (List ℕ → List Entry) → Option (List ℕ → List Entry) → Type 0
 Synced name None new = new ≡ None
-Synced name (Some a) None = ⊥
-Synced name (Some a) (Some b) = OthersStay name a b × (present (b name) ≡ synced (present (a name)))
+Synced name (Some before) None = ⊥
+Synced name (Some before) (Some after) = OthersStay name before after × (present (after name) ≡ synced (present (before name)))
 
 -- one file took the place of another, in one step
 abbrev pub Moved : List ℕ → List ℕ → Option (List ℕ → List Entry) → Option (List ℕ → List Entry) → Type 0
 Moved from to None new = new ≡ None
-Moved from to (Some a) None = ⊥
-Moved from to (Some a) (Some b) = b to ≡ a to ++ present (a from) ∷ []
+Moved from to (Some before) None = ⊥
+Moved from to (Some before) (Some after) = after to ≡ before to ++ present (before from) ∷ []
 
 -- the file has the history that it had
 abbrev pub Stays : List ℕ → Option (List ℕ → List Entry) → Option (List ℕ → List Entry) → Type 0
 Stays name None new = new ≡ None
-Stays name (Some a) None = ⊥
-Stays name (Some a) (Some b) = b name ≡ a name
+Stays name (Some before) None = ⊥
+Stays name (Some before) (Some after) = after name ≡ before name
 
 -- there is no such file
 abbrev pub IsMissing : Option (List ℕ → List Entry) → List ℕ → Type 0
 IsMissing None name = ⊤
-IsMissing (Some a) name = present (a name) ≡ None
+IsMissing (Some files) name = present (files name) ≡ None
 
 -- the file has these bytes
 abbrev pub Contains : Option (List ℕ → List Entry) → List ℕ → List ℕ → Type 0
 Contains None name bytes = ⊤
-Contains (Some a) name bytes = (is_durable : Bool) × (present (a name) ≡ Some (is_durable, bytes))
+Contains (Some files) name bytes = (is_durable : Bool) × (present (files name) ≡ Some (is_durable, bytes))
 
 -- ---- one file
 
 -- the history of one file, if it is known
 abbrev pub history_of : Option (List ℕ → List Entry) → List ℕ → Option (List Entry)
 history_of None name = None
-history_of (Some a) name = Some (a name)
+history_of (Some files) name = Some (files name)
 
 -- the bytes that are on the disk for certain
 abbrev pub bytes_of : Entry → Option (List ℕ)
@@ -94,16 +94,16 @@ stands_of (Some entries) = bytes_of (present entries)
 -- a crash at any time leaves the earlier file or these bytes.
 abbrev pub Replaced : Option (List Entry) → Option (List Entry) → List ℕ → Type 0
 Replaced None new form = new ≡ None
-Replaced (Some a) None form = ⊥
-Replaced (Some a) (Some b) form = (present b ≡ durable form) × ((b ≡ a) ⊎ (b ≡ a ++ durable form ∷ []))
+Replaced (Some before) None form = ⊥
+Replaced (Some before) (Some after) form = (present after ≡ durable form) × ((after ≡ before) ⊎ (after ≡ before ++ durable form ∷ []))
 
 -- the history of the file is unchanged
 abbrev pub Unchanged : Option (List Entry) → Option (List Entry) → Type 0
 Unchanged None new = new ≡ None
-Unchanged (Some a) None = ⊥
-Unchanged (Some a) (Some b) = b ≡ a
+Unchanged (Some before) None = ⊥
+Unchanged (Some before) (Some after) = after ≡ before
 
 -- these bytes are on the disk, as far as it is known
 abbrev pub IsLast : Option (List Entry) → List ℕ → Type 0
 IsLast None form = ⊤
-IsLast (Some a) form = present a ≡ durable form
+IsLast (Some entries) form = present entries ≡ durable form

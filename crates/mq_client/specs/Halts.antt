@@ -24,7 +24,7 @@ halt_closes NotSubscribed = []
 halt_closes (SaveError kind) = []
 halt_closes Memory = []
 
--- the same of a result
+-- the same for a result
 abbrev pub closes_of : {T : Type 0} → Result T ClientError → List CloseReason
 closes_of (Ok done) = []
 closes_of (Err error) = halt_closes error
@@ -36,7 +36,7 @@ Reports (SaveError kind) reasons = ⊤
 Reports Memory reasons = ⊤
 Reports error reasons = reasons ≡ halt_closes error
 
--- the same of a result: `Ok` means that the end did not close
+-- the same for a result: `Ok` means that the end did not close
 abbrev pub Closes : {T : Type 0} → Result T ClientError → List CloseReason → Type 0
 Closes (Ok done) reasons = reasons ≡ []
 Closes (Err error) reasons = Reports error reasons

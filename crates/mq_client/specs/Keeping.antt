@@ -7,7 +7,7 @@ use Rattle.mq_end.specs.Resuming.{kept_session}
 
 -- the saved form of a client's session
 abbrev pub saved_of : ClientState → List ℕ
-saved_of c = saved_form_two c.config.id c.link.end.known (kept_session c.link)
+saved_of client = saved_form_two client.config.id client.link.end.known (kept_session client.link)
 
 -- The forms replaced each other in this order. If the saved form was known before, the last form is
 -- saved now.

@@ -8,7 +8,7 @@ is_absolute (byte ∷ bytes) = byte == 47
 
 -- the name has no `/` from this place on
 abbrev pub IsWithoutFrom : ℕ → List ℕ → Type 0
-IsWithoutFrom place name = (i : ℕ) → place < i → i < length name → slice_index name i ≢ 47
+IsWithoutFrom place name = (index : ℕ) → place < index → index < length name → slice_index name index ≢ 47
 
 -- the last `/` of the name is at this place
 pub record IsLastSlash (place : ℕ) (name : List ℕ) : Type 0 where
@@ -20,7 +20,7 @@ pub record IsLastSlash (place : ℕ) (name : List ℕ) : Type 0 where
 -- begins at the root or the link is in no folder.
 pub data IsNamedBy (link target : List ℕ) : List ℕ → Type 0 where
   Absolute : is_absolute target ≡ true → IsNamedBy link target target
-  Bare : is_absolute target ≡ false → ((i : ℕ) → i < length link → slice_index link i ≢ 47) → IsNamedBy link target target
+  Bare : is_absolute target ≡ false → ((index : ℕ) → index < length link → slice_index link index ≢ 47) → IsNamedBy link target target
   InFolder : (place : ℕ) → is_absolute target ≡ false → IsLastSlash place link
       → IsNamedBy link target (take place link ++ (codes "/" ++ target))
 

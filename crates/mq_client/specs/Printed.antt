@@ -42,17 +42,17 @@ resumed_line count = codes "resumed " ++ (decimal count ++ codes "\n")
 -- a payload in hexadecimal, or `-` for an empty one
 abbrev pub payload_word : List ℕ → List ℕ
 payload_word [] = codes "-"
-payload_word (b ∷ bs) = hex_of (b ∷ bs)
+payload_word (byte ∷ rest) = hex_of (byte ∷ rest)
 
 -- a message: topic, quality of service, payload
 abbrev pub message_line : Message → List ℕ
-message_line m =
-    escaped m.topic ++ (codes " " ++ (decimal (qos_number m.qos) ++ (codes " " ++ (payload_word m.payload ++ codes "\n"))))
+message_line message =
+    escaped message.topic ++ (codes " " ++ (decimal (qos_number message.qos) ++ (codes " " ++ (payload_word message.payload ++ codes "\n"))))
 
 -- only messages that are delivered to the application are printed
 abbrev pub told_line : Happening → List ℕ
 told_line (happens.Up present) = []
-told_line (happens.Handed m) = message_line m
+told_line (happens.Handed message) = message_line message
 told_line (happens.Subscribe id requests) = []
 told_line (happens.Unsubscribe id filters) = []
 told_line (happens.SubAck id given) = []

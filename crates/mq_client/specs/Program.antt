@@ -19,20 +19,20 @@ program_config id =
     record { id = id; keep_alive = 60; will = None; login = None; limits = strict most_packet; capacity = 100; window = None }
 
 -- a client without a session
-pub record IsNewClient (id : List ℕ) (c : ClientState) : Type 0 where
-  pub config : c.config ≡ program_config id
-  pub end : c.link.end ≡ blank_end None
-  pub capacity : c.link.capacity ≡ 100
+pub record IsNewClient (id : List ℕ) (client : ClientState) : Type 0 where
+  pub config : client.config ≡ program_config id
+  pub end : client.link.end ≡ blank_end None
+  pub capacity : client.link.capacity ≡ 100
 
 -- a client with the session that these bytes are the saved form of (4.1)
-pub record GoesOn (id bytes : List ℕ) (c : ClientState) : Type 0 where
+pub record GoesOn (id bytes : List ℕ) (client : ClientState) : Type 0 where
   pub saved : Saved
   pub form : IsSavedAs saved bytes
   pub session : IsSession saved.session
-  pub config : c.config ≡ program_config id
-  pub end : c.link.end ≡
+  pub config : client.config ≡ program_config id
+  pub end : client.link.end ≡
       resumed None saved.established saved.session.sender.book saved.session.receiver saved.session.sender.last
-  pub capacity : c.link.capacity ≡ saved.session.sender.capacity
+  pub capacity : client.link.capacity ≡ saved.session.sender.capacity
 
 -- These bytes are the saved form of a session that a client with this identifier can continue with.
 pub record CanGoOn (id bytes : List ℕ) (saved : Saved) : Type 0 where

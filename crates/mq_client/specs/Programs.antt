@@ -22,21 +22,22 @@ HaltsBefore status text = (halt : ClientError) × (status ≡ halt_status halt) 
 
 -- `publish` by a new client with this identifier, over a clean session
 abbrev pub IsTextsDone : List ℕ → Publications → ℕ → List ℕ → Type 0
-IsTextsDone id t status text =
-    ((a : Moment) × (b : Moment) × IsNewClient id a.client × IsPublishDone a b true t status text)
+IsTextsDone id publications status text =
+    ((earlier : Moment) × (later : Moment) × IsNewClient id earlier.client × IsPublishDone earlier later true publications status text)
     ⊎ HaltsBefore status text
 
 -- `collect` by a new client with this identifier
 abbrev pub IsMessagesDone : List ℕ → Bool → CollectGoal → ℕ → List ℕ → Type 0
 IsMessagesDone id clean goal status text =
-    ((a : Moment) × (b : Moment) × IsNewClient id a.client × IsCollectDone a b clean goal status text)
+    ((earlier : Moment) × (later : Moment) × IsNewClient id earlier.client × IsCollectDone earlier later clean goal status text)
     ⊎ HaltsBefore status text
 
 -- a connection with a clean session discarded the session that the server had of this client
 -- (3.1.2.4)
 abbrev pub IsDiscarded : List ℕ → Type 0
 IsDiscarded id =
-    (a : Moment) × (b : Moment) × (t : Publications) × IsNewClient id a.client × (t.texts.now ≡ []) × Published a b true t
+    (earlier : Moment) × (later : Moment) × (publications : Publications) × IsNewClient id earlier.client
+    × (publications.texts.now ≡ []) × Published earlier later true publications
 
 -- There is no session to continue with: it is forgotten, or there is no file of this name.
 abbrev pub IsAbsent : Option (List ℕ → List Entry) → List ℕ → Bool → Type 0
@@ -45,19 +46,19 @@ IsAbsent files name forgotten = (forgotten ≡ true) ⊎ IsMissing files name
 -- The client has the session whose saved form is in the file of this name. The file says whether
 -- the server lost the session.
 abbrev pub IsLoadedOf : Option (List ℕ → List Entry) → List ℕ → List ℕ → Bool → ClientState → Type 0
-IsLoadedOf files name id lost c = (form : List ℕ) × Contains files name (marked_form lost form) × GoesOn id form c
+IsLoadedOf files name id lost client = (form : List ℕ) × Contains files name (marked_form lost form) × GoesOn id form client
 
 -- A client with this identifier. If there is no session to continue with, it is new, and the
 -- server's session was discarded. Otherwise it has the session in the file.
 abbrev pub IsClientOf : Option (List ℕ → List Entry) → List ℕ → Bool → List ℕ → Bool → ClientState → Type 0
-IsClientOf files name forgotten id lost c =
-    (IsAbsent files name forgotten × IsNewClient id c × IsDiscarded id × (lost ≡ false))
-    ⊎ IsLoadedOf files name id lost c
+IsClientOf files name forgotten id lost client =
+    (IsAbsent files name forgotten × IsNewClient id client × IsDiscarded id × (lost ≡ false))
+    ⊎ IsLoadedOf files name id lost client
 
 -- An earlier run found out that the server lost the session of this client.
 abbrev pub IsLostDone : ClientState → ℕ → List ℕ → Type 0
-IsLostDone c status text =
-    (status ≡ 1) × (text ≡ resumed_line (resumed_of c.link.end) ++ halt_line (Closed SessionLost))
+IsLostDone client status text =
+    (status ≡ 1) × (text ≡ resumed_line (resumed_of client.link.end) ++ halt_line (Closed SessionLost))
 
 -- the session was not loaded
 abbrev pub IsUnloaded : ℕ → List ℕ → Type 0
@@ -65,15 +66,15 @@ IsUnloaded status text = (why : LoadFailure) × (status ≡ unloaded_status why)
 
 -- `publish` by this client, over its session, which is saved in place of these bytes
 abbrev pub IsKeptDone : Option (List ℕ) → ClientState → Publications → ℕ → List ℕ → Type 0
-IsKeptDone kept client t status text =
-    ((a : Moment) × (b : Moment) × (a.client ≡ client) × (a.kept ≡ kept) × IsResumeDone a b t status text)
+IsKeptDone kept client publications status text =
+    ((earlier : Moment) × (later : Moment) × (earlier.client ≡ client) × (earlier.kept ≡ kept) × IsResumeDone earlier later publications status text)
     ⊎ HaltsBefore status text
 
 -- `publish` by a client with this identifier, over the session in the file of this name, or over a
 -- new one. If the file says that the server lost the session, that is reported.
 abbrev pub IsSessionDone : Option (List ℕ → List Entry) → List ℕ → Bool → List ℕ → Publications → ℕ → List ℕ → Type 0
-IsSessionDone files name forgotten id t status text =
-    ((a : Moment) × (b : Moment) × IsClientOf files name forgotten id false a.client
-    × (a.kept ≡ stands_of (history_of files name)) × IsResumeDone a b t status text)
+IsSessionDone files name forgotten id publications status text =
+    ((earlier : Moment) × (later : Moment) × IsClientOf files name forgotten id false earlier.client
+    × (earlier.kept ≡ stands_of (history_of files name)) × IsResumeDone earlier later publications status text)
     ⊎ (HaltsBefore status text ⊎ (IsUnloaded status text
-    ⊎ ((c : ClientState) × IsClientOf files name forgotten id true c × IsLostDone c status text)))
+    ⊎ ((client : ClientState) × IsClientOf files name forgotten id true client × IsLostDone client status text)))

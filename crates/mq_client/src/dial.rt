@@ -2,7 +2,7 @@
 
 ghost use Rattle.std.specs.Prelude.{◌≡◌, None};
 
-use mq_stream::{Broken, Clock, Elapsed, SocketStream, Stream};
+use mq_stream::{Clock, Elapsed, SocketStream, Stream, StreamError};
 use std::io::ErrorKind;
 use std::net::{Net, OpenStream, SocketAddr};
 use std::time::{Duration, Instant};
@@ -26,7 +26,7 @@ pub struct Connection<S: Stream, C: Clock> {
 /// Makes connections.
 pub trait Dial<S: Stream, C: Clock> {
     /// Makes a connection.
-    fn dial(&mut self) -> Result<Connection<S, C>, Broken>;
+    fn dial(&mut self) -> Result<Connection<S, C>, StreamError>;
 }
 
 /// Makes connections to a port of 127.0.0.1. A read waits at most 100 milliseconds for bytes, a
@@ -66,9 +66,9 @@ fn connect<R: Net>(net: &R, port: u16) -> io::Result<R::Stream> {
 }
 
 impl<'a, R: Net + time::Clock> Dial<SocketStream<R::Stream>, Elapsed<'a, R>> for Loopback<'a, R> {
-    fn dial(&mut self) -> Result<Connection<SocketStream<R::Stream>, Elapsed<'a, R>>, Broken> {
+    fn dial(&mut self) -> Result<Connection<SocketStream<R::Stream>, Elapsed<'a, R>>, StreamError> {
         let Ok(start) = Instant::now(self.rt) else {
-            return Err(Broken);
+            return Err(StreamError);
         };
         match connect(self.rt, self.port) {
             Ok(stream) => Ok(Connection {
@@ -77,7 +77,7 @@ impl<'a, R: Net + time::Clock> Dial<SocketStream<R::Stream>, Elapsed<'a, R>> for
             }),
             Err(error) => {
                 self.failure = Some(error.kind());
-                Err(Broken)
+                Err(StreamError)
             }
         }
     }

@@ -25,6 +25,11 @@ const FIRST_CHUNK: usize = 4;
 const QUIET_LIMIT: u64 = 900;
 
 /// A client end at a stream, with a clock and a session saver.
+///
+/// Call [`open`](Peer::open) first, then [`hear`](Peer::hear) and [`answer`](Peer::answer) in turns
+/// until [`is_up`](Peer::is_up). Then call [`publish`](Peer::publish),
+/// [`subscribe`](Peer::subscribe) and [`listen`](Peer::listen), and [`leave`](Peer::leave) at the
+/// end.
 #[derive(Drop)]
 pub struct Peer<S: Stream, C: Clock, K: SessionSaver> {
     client: ClientEnd,
@@ -321,8 +326,8 @@ impl<S: Stream, C: Clock, K: SessionSaver> Peer<S, C, K> {
         Ok(progress)
     }
 
-    /// Receives the bytes of one read, which waits no longer than the stream's time limit. What the
-    /// client answers stays in its output until [`answer`](Peer::answer) or [`write`](Peer::write).
+    /// Receives the bytes of one read, which ends at the stream's time limit. The answers stay in
+    /// the output until [`answer`](Peer::answer) or [`write`](Peer::write).
     pub fn hear(&mut self) -> Result<Progress, ClientError>
         ensures went { IfOk result
             (λ p. Went self.old self.new [] p.happenings (option_to_list p.closed)) }

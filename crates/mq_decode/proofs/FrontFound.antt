@@ -17,7 +17,7 @@ use Rattle.mq_decode.specs.declared.fault.DecodeFault.{DecodeFault}
 use Rattle.mq_decode.specs.declared.kind.Kind.{Kind}
 use Rattle.mq_decode.specs.Kind.{kind_at, fixed_size, wrong_size, size_fault}
 use Rattle.mq_decode.specs.Bodies.{body_at}
-use Rattle.mq_decode.specs.Front.{sized, header_of, header_at, len_told, front_at}
+use Rattle.mq_decode.specs.Inside.Front.{sized, header_of, header_at, len_told, front_at}
 use Rattle.mq_decode.specs.Limits.{Bounds}
 use Rattle.mq_decode.specs.Grammar.{ReadsWithin, HasHeader, Faulty, AtFirst, AtLength, AtSize, AtField, Pending}
 use Rattle.mq_decode.specs.declared.packet_view.View.{View}

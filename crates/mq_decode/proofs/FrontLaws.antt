@@ -13,7 +13,7 @@ use Rattle.mq_decode.specs.declared.fault.DecodeFault.{DecodeFault}
 use Rattle.mq_decode.specs.declared.kind.Kind.{Kind}
 use Rattle.mq_decode.specs.Kind.{kind_at, size_fault}
 use Rattle.mq_decode.specs.Bodies.{body_at}
-use Rattle.mq_decode.specs.Front.{fault_at, sized, header_at, len_told, packet_or_fault, front_at}
+use Rattle.mq_decode.specs.Inside.Front.{fault_at, sized, header_at, len_told, packet_or_fault, front_at}
 use Rattle.mq_decode.specs.Limits.{Bounds}
 use Rattle.mq_decode.specs.Grammar.{Reads, ReadsWithin, FirstFault, BadLength, SizeFault, HasHeader, Faulty, AtFirst, AtLength, AtSize, AtField, Pending}
 use Rattle.mq_decode.proofs.FieldLaws.{Wire}

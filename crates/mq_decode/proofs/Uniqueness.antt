@@ -16,7 +16,7 @@ use Rattle.mq_decode.specs.declared.header.Header.{Header}
 use Rattle.mq_decode.specs.declared.kind.Kind.{Kind}
 use Rattle.mq_decode.specs.Kind.{kind_at, fixed_size, wrong_size, size_fault}
 use Rattle.mq_decode.specs.Bodies.{body_at}
-use Rattle.mq_decode.specs.Front.{fault_at, sized, header_of, header_after, header_at, packet_or_fault, front_after, front_at}
+use Rattle.mq_decode.specs.Inside.Front.{fault_at, sized, header_of, header_after, header_at, packet_or_fault, front_after, front_at}
 use Rattle.mq_decode.specs.Limits.{Bounds}
 use Rattle.mq_decode.specs.Grammar.{ReadsWithin, Stream, Faulty, Ends, Reading}
 use Rattle.mq_decode.specs.Laws.{EachReads, OneReading, PendingIsShort, ReadsAgain}

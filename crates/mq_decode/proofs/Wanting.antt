@@ -14,7 +14,7 @@ use Rattle.mq_decode.specs.declared.header.Header.{Header}
 use Rattle.mq_decode.specs.declared.kind.Kind.{Kind}
 use Rattle.mq_decode.specs.Kind.{kind_at}
 use Rattle.mq_decode.specs.Bodies.{body_at}
-use Rattle.mq_decode.specs.Front.{end_told, header_of, header_after, header_at, packet_or_fault, front_after, front_at}
+use Rattle.mq_decode.specs.Inside.Front.{end_told, header_of, header_after, header_at, packet_or_fault, front_after, front_at}
 use Rattle.mq_decode.specs.Limits.{Bounds}
 use Rattle.mq_decode.specs.Grammar.{Pending, Wants}
 use Rattle.mq_decode.proofs.FieldLaws.{Wire}

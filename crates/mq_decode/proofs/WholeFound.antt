@@ -2,7 +2,7 @@
 use Rattle.std.proofs.Common.{◌≡◌, ℕ, List, take, Some, Ok, sym, subst}
 use Rattle.mq_wire.specs.Bytes.{AreBytes}
 use Rattle.mq_packet.specs.declared.packet.Packet.{Packet}
-use Rattle.mq_decode.specs.Front.{front_at}
+use Rattle.mq_decode.specs.Inside.Front.{front_at}
 use Rattle.mq_decode.specs.Limits.{Bounds}
 use Rattle.mq_decode.specs.Grammar.{ReadsWithin}
 use Rattle.mq_decode.specs.declared.packet_view.PacketView.{PacketView}

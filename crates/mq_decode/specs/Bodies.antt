@@ -22,18 +22,18 @@ use Rattle.mq_decode.specs.Connects.{connect_at}
 
 -- the code of CONNACK (3.2.2.3); with Session Present 1 it is 0
 abbrev pub refusal_or_fault : Option RefusalCode → ℕ → List ℕ → Result (ConnAck × List ℕ) BadField
-refusal_or_fault None b bytes = Err (bad_at ForbiddenCode (b ∷ bytes))
-refusal_or_fault (Some code) b bytes = Ok (Refused code, bytes)
+refusal_or_fault None byte bytes = Err (bad_at ForbiddenCode (byte ∷ bytes))
+refusal_or_fault (Some code) byte bytes = Ok (Refused code, bytes)
 
 abbrev pub answer_at : Bool → List ℕ → Result (ConnAck × List ℕ) BadField
 answer_at present [] = Err (bad_at PastEnd [])
-answer_at false (b ∷ bytes) = if b == 0 then Ok (Accepted false, bytes) else refusal_or_fault (refusal_from b) b bytes
-answer_at true (b ∷ bytes) = if b == 0 then Ok (Accepted true, bytes) else Err (bad_at ForbiddenCode (b ∷ bytes))
+answer_at false (byte ∷ bytes) = if byte == 0 then Ok (Accepted false, bytes) else refusal_or_fault (refusal_from byte) byte bytes
+answer_at true (byte ∷ bytes) = if byte == 0 then Ok (Accepted true, bytes) else Err (bad_at ForbiddenCode (byte ∷ bytes))
 
 -- Session Present (3.2.2.2)
 abbrev pub present_at : List ℕ → Result (Bool × List ℕ) BadField
 present_at [] = Err (bad_at PastEnd [])
-present_at (b ∷ bytes) = if b == 0 then Ok (false, bytes) else (if b == 1 then Ok (true, bytes) else Err (bad_at ForbiddenFlags (b ∷ bytes)))
+present_at (byte ∷ bytes) = if byte == 0 then Ok (false, bytes) else (if byte == 1 then Ok (true, bytes) else Err (bad_at ForbiddenFlags (byte ∷ bytes)))
 
 unfoldable pub connack_at : List ℕ → Result ConnAck BadField
 connack_at bytes = present_at bytes >>= λ present. answer_at present.0 present.1 >>= λ answer. end_at answer.1 >>= λ end. Ok answer.0
@@ -60,16 +60,16 @@ only_identifier_at bytes = identifier_at bytes >>= λ id. end_at id.1 >>= λ end
 
 -- all fields of a packet of this kind
 abbrev pub body_at : Kind → List ℕ → Result Packet BadField
-body_at kinds.Connect bytes = connect_at bytes >>= λ c. Ok (packets.Connect c)
-body_at kinds.ConnAck bytes = connack_at bytes >>= λ c. Ok (packets.ConnAck c)
-body_at (kinds.Publish flags) bytes = publish_at flags bytes >>= λ p. Ok (packets.Publish p)
+body_at kinds.Connect bytes = connect_at bytes >>= λ contents. Ok (packets.Connect contents)
+body_at kinds.ConnAck bytes = connack_at bytes >>= λ contents. Ok (packets.ConnAck contents)
+body_at (kinds.Publish flags) bytes = publish_at flags bytes >>= λ publish. Ok (packets.Publish publish)
 body_at kinds.PubAck bytes = only_identifier_at bytes >>= λ id. Ok (packets.PubAck id)
 body_at kinds.PubRec bytes = only_identifier_at bytes >>= λ id. Ok (packets.PubRec id)
 body_at kinds.PubRel bytes = only_identifier_at bytes >>= λ id. Ok (packets.PubRel id)
 body_at kinds.PubComp bytes = only_identifier_at bytes >>= λ id. Ok (packets.PubComp id)
-body_at kinds.Subscribe bytes = list_with request_at bytes >>= λ l. Ok (packets.Subscribe l.0 l.1)
-body_at kinds.SubAck bytes = list_with suback_code_at bytes >>= λ l. Ok (packets.SubAck l.0 l.1)
-body_at kinds.Unsubscribe bytes = list_with filter_at bytes >>= λ l. Ok (packets.Unsubscribe l.0 l.1)
+body_at kinds.Subscribe bytes = list_with request_at bytes >>= λ list. Ok (packets.Subscribe list.0 list.1)
+body_at kinds.SubAck bytes = list_with suback_code_at bytes >>= λ list. Ok (packets.SubAck list.0 list.1)
+body_at kinds.Unsubscribe bytes = list_with filter_at bytes >>= λ list. Ok (packets.Unsubscribe list.0 list.1)
 body_at kinds.UnsubAck bytes = only_identifier_at bytes >>= λ id. Ok (packets.UnsubAck id)
 body_at kinds.PingReq bytes = end_at bytes >>= λ end. Ok packets.PingReq
 body_at kinds.PingResp bytes = end_at bytes >>= λ end. Ok packets.PingResp

@@ -9,12 +9,12 @@ use Rattle.mq_decode.specs.Grammar.{ReadsWithin, Pending, Reading}
 -- packet is still incomplete, otherwise the end of the packet.
 abbrev pub Adds : Bounds → List ℕ → List ℕ → List ℕ → Type 0
 Adds limits [] added after = added ≡ []
-Adds limits (b ∷ held) added after = (Pending limits ((b ∷ held) ++ added) × (after ≡ [])) ⊎ ((p : Packet) × ReadsWithin limits p ((b ∷ held) ++ added))
+Adds limits (byte ∷ held) added after = (Pending limits ((byte ∷ held) ++ added) × (after ≡ [])) ⊎ ((packet : Packet) × ReadsWithin limits packet ((byte ∷ held) ++ added))
 
 -- The number of bytes of a piece that belong to a packet that isn't complete in the piece: the
 -- bytes that complete the held packet, and the rest behind the packets that are complete in the
 -- piece.
-pub record LeftOver (limits : Bounds) (held piece : List ℕ) (n : ℕ) : Type 0 where
+pub record LeftOver (limits : Bounds) (held piece : List ℕ) (size : ℕ) : Type 0 where
   pub added : List ℕ
   pub after : List ℕ
   pub parts : piece ≡ added ++ after
@@ -22,18 +22,18 @@ pub record LeftOver (limits : Bounds) (held piece : List ℕ) (n : ℕ) : Type 0
   pub packets : List Packet
   pub left : List ℕ
   pub reading : Reading limits after packets left None
-  pub count : n ≡ length added + length left
+  pub count : size ≡ length added + length left
 
 -- A counter that stops at the largest number of 64 bits.
 abbrev pub counted_more : ℕ → ℕ → ℕ
-counted_more count n = min (count + n) (2 ^ 64 - 1)
+counted_more count more = min (count + more) (2 ^ 64 - 1)
 
 -- The counter grew by this number of bytes.
 abbrev pub Copies : Bounds → List ℕ → List ℕ → ℕ → ℕ → Type 0
-Copies limits held piece old new = (n : ℕ) × LeftOver limits held piece n × (new ≡ counted_more old n)
+Copies limits held piece old new = (size : ℕ) × LeftOver limits held piece size × (new ≡ counted_more old size)
 
--- The counter after a packet that used `n` bytes of the piece: they were copied if bytes were held;
--- otherwise the packet was read from the piece.
+-- The counter after a packet that used `more` bytes of the piece: they were copied if bytes were
+-- held; otherwise the packet was read from the piece.
 abbrev pub counted_next : List ℕ → ℕ → ℕ → ℕ
-counted_next [] count n = count
-counted_next (b ∷ held) count n = counted_more count n
+counted_next [] count more = count
+counted_next (byte ∷ held) count more = counted_more count more

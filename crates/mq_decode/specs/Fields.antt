@@ -17,7 +17,7 @@ bad_at kind bytes = record { kind = kind; left = length bytes }
 
 abbrev pub byte_at : List ℕ → Result (ℕ × List ℕ) BadField
 byte_at [] = Err (bad_at PastEnd [])
-byte_at (b ∷ bytes) = Ok (b, bytes)
+byte_at (byte ∷ bytes) = Ok (byte, bytes)
 
 -- two bytes (1.5.2)
 unfoldable pub number_at : List ℕ → Result (ℕ × List ℕ) BadField
@@ -34,7 +34,7 @@ text_fault texts.NotUtf8 = NotUtf8
 text_fault texts.Nul = Nul
 
 abbrev pub text_field : List ℕ → Result (List ℕ × ℕ) FieldFault → Result (List ℕ × List ℕ) BadField
-text_field bytes (Ok t) = Ok (t.0, drop t.1 bytes)
+text_field bytes (Ok found) = Ok (found.0, drop found.1 bytes)
 text_field bytes (Err fault) = Err (bad_at (text_fault fault) bytes)
 
 unfoldable pub text_at : List ℕ → Result (List ℕ × List ℕ) BadField
@@ -42,25 +42,25 @@ text_at bytes = text_field bytes (read_text bytes 0)
 
 -- a topic name, a topic filter (4.7)
 unfoldable pub name_at : List ℕ → Result (List ℕ × List ℕ) BadField
-name_at bytes = text_at bytes >>= λ t. if is_topic_name t.0 then Ok t else Err (bad_at NotTopicName bytes)
+name_at bytes = text_at bytes >>= λ text. if is_topic_name text.0 then Ok text else Err (bad_at NotTopicName bytes)
 
 unfoldable pub filter_at : List ℕ → Result (List ℕ × List ℕ) BadField
-filter_at bytes = text_at bytes >>= λ t. if is_topic_filter t.0 then Ok t else Err (bad_at NotTopicFilter bytes)
+filter_at bytes = text_at bytes >>= λ text. if is_topic_filter text.0 then Ok text else Err (bad_at NotTopicFilter bytes)
 
 -- A binary field: two bytes with the number of bytes, and the bytes.
 unfoldable pub binary_at : List ℕ → Result (List ℕ × List ℕ) BadField
-binary_at bytes = number_at bytes >>= λ n. if nat_lt (length n.1) n.0 then Err (bad_at PastEnd bytes) else Ok (take n.0 n.1, drop n.0 n.1)
+binary_at bytes = number_at bytes >>= λ size. if nat_lt (length size.1) size.0 then Err (bad_at PastEnd bytes) else Ok (take size.0 size.1, drop size.0 size.1)
 
 -- a byte that is a code of some kind (3.8.3, 3.9.3)
 abbrev pub code_or_fault : {A : Type 0} → Option A → ℕ → List ℕ → Result (A × List ℕ) BadField
-code_or_fault None b bytes = Err (bad_at ForbiddenCode (b ∷ bytes))
-code_or_fault (Some a) b bytes = Ok (a, bytes)
+code_or_fault None byte bytes = Err (bad_at ForbiddenCode (byte ∷ bytes))
+code_or_fault (Some code) byte bytes = Ok (code, bytes)
 
 abbrev pub code_byte_at : {A : Type 0} → (ℕ → Option A) → List ℕ → Result (A × List ℕ) BadField
 code_byte_at from [] = Err (bad_at PastEnd [])
-code_byte_at from (b ∷ bytes) = code_or_fault (from b) b bytes
+code_byte_at from (byte ∷ bytes) = code_or_fault (from byte) byte bytes
 
 -- the end of the packet
 abbrev pub end_at : List ℕ → Result (Unit {0}) BadField
 end_at [] = Ok tt
-end_at (b ∷ bytes) = Err (bad_at BytesLeft (b ∷ bytes))
+end_at (byte ∷ bytes) = Err (bad_at BytesLeft (byte ∷ bytes))

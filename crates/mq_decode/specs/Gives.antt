@@ -22,7 +22,7 @@ Fails (errors.Bad bad) read = read ≡ Err bad
 
 abbrev pub Gives : {X Y : Type 0} → (X → Y) → Result X FieldsError → Result Y BadField → Type 0
 Gives view (Ok x) read = read ≡ Ok (view x)
-Gives view (Err e) read = Fails e read
+Gives view (Err error) read = Fails error read
 
 -- the bytes end with these
 abbrev pub EndsWith : List ℕ → List ℕ → Type 0

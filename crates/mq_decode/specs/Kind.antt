@@ -67,8 +67,8 @@ fixed_size Disconnect = Some 0
 
 -- a remaining length over the limit, or other than the fixed one
 abbrev pub wrong_size : Option ℕ → ℕ → Option FaultKind
-wrong_size None n = None
-wrong_size (Some size) n = if n == size then None else Some WrongSize
+wrong_size None actual = None
+wrong_size (Some size) actual = if actual == size then None else Some WrongSize
 
 abbrev pub size_fault : ℕ → Kind → ℕ → Option FaultKind
-size_fault most kind n = if nat_lt most n then Some OverLimit else wrong_size (fixed_size kind) n
+size_fault most kind size = if nat_lt most size then Some OverLimit else wrong_size (fixed_size kind) size

@@ -10,30 +10,31 @@ use Rattle.mq_decode.specs.Grammar.{ReadsWithin, Faulty, Pending, Reading}
 
 -- two readings of the same bytes are one
 abbrev pub OneReading : Type 0
-OneReading = (limits : Bounds) (b : List ℕ) (ps qs : List Packet) (rest last : List ℕ) (end stop : Option DecodeFault)
-    → Reading limits b ps rest end → Reading limits b qs last stop → (ps ≡ qs) × (rest ≡ last) × (end ≡ stop)
+OneReading = (limits : Bounds) (buffer : List ℕ) (packets others : List Packet) (rest last : List ℕ) (end stop : Option DecodeFault)
+    → Reading limits buffer packets rest end → Reading limits buffer others last stop → (packets ≡ others) × (rest ≡ last) × (end ≡ stop)
 
 -- every list of bytes has a reading
 abbrev pub EachReads : Type 0
-EachReads = (limits : Bounds) (b : List ℕ) → AreBytes b → (ps : List Packet) × (rest : List ℕ) × (end : Option DecodeFault) × Reading limits b ps rest end
+EachReads = (limits : Bounds) (buffer : List ℕ) → AreBytes buffer → (packets : List Packet) × (rest : List ℕ) × (end : Option DecodeFault) × Reading limits buffer packets rest end
 
 -- Pending bytes exceed the limit by at most five bytes.
 abbrev pub PendingIsShort : Type 0
-PendingIsShort = (limits : Bounds) (b : List ℕ) → AreBytes b → Pending limits b → length b ≤ 5 + limits.most
+PendingIsShort = (limits : Bounds) (buffer : List ℕ) → AreBytes buffer → Pending limits buffer → length buffer ≤ 5 + limits.most
 
 -- a packet that is read at the front
 pub record ReadsAgain : Type 0 where
   -- Each encoding is read as its packet, under all limits that admit it.
-  pub encoded : (limits : Bounds) (p : Packet) (s : List ℕ) → Encodes p s → length (fields p) ≤ limits.most → ReadsWithin limits p s
+  pub encoded : (limits : Bounds) (packet : Packet) (bytes : List ℕ) → Encodes packet bytes → length (fields packet) ≤ limits.most → ReadsWithin limits packet bytes
   -- is the only one
-  pub one : (limits : Bounds) (p q : Packet) (s t rest more : List ℕ) → ReadsWithin limits p s → ReadsWithin limits q t → s ++ rest ≡ t ++ more → (p ≡ q) × (rest ≡ more)
+  pub one : (limits : Bounds) (packet other : Packet) (bytes other_bytes rest more : List ℕ)
+      → ReadsWithin limits packet bytes → ReadsWithin limits other other_bytes → bytes ++ rest ≡ other_bytes ++ more → (packet ≡ other) × (rest ≡ more)
   -- takes at least a byte
-  pub some : (limits : Bounds) (p : Packet) (s : List ℕ) → ReadsWithin limits p s → 0 < length s
+  pub some : (limits : Bounds) (packet : Packet) (bytes : List ℕ) → ReadsWithin limits packet bytes → 0 < length bytes
   -- and is no fault
-  pub right : (limits : Bounds) (p : Packet) (s rest : List ℕ) (k : FaultKind) (place : ℕ) → ReadsWithin limits p s → Faulty limits (s ++ rest) k place → ⊥
+  pub right : (limits : Bounds) (packet : Packet) (bytes rest : List ℕ) (cause : FaultKind) (place : ℕ) → ReadsWithin limits packet bytes → Faulty limits (bytes ++ rest) cause place → ⊥
 
 -- A packet from the held bytes and the front of a piece, followed by a reading of the rest of the
 -- piece, is a reading of both.
 abbrev pub ReadsOn : Type 0
-ReadsOn = (limits : Bounds) (held piece : List ℕ) (p : Packet) (n : ℕ) (ps : List Packet) (rest : List ℕ) (end : Option DecodeFault)
-    → ReadsWithin limits p (held ++ take n piece) → Reading limits (drop n piece) ps rest end → Reading limits (held ++ piece) (p ∷ ps) rest end
+ReadsOn = (limits : Bounds) (held piece : List ℕ) (packet : Packet) (count : ℕ) (packets : List Packet) (rest : List ℕ) (end : Option DecodeFault)
+    → ReadsWithin limits packet (held ++ take count piece) → Reading limits (drop count piece) packets rest end → Reading limits (held ++ piece) (packet ∷ packets) rest end

@@ -64,52 +64,52 @@ flags_byte flags = 2 * bit flags.clean_session + will_bits flags.will + login_bi
 
 -- A return code (3.2.2.3): 0, or that of a refusal if Session Present is 0.
 abbrev pub IsReturned : Bool → List ℕ → Type 0
-IsReturned false s = (s ≡ 0 ∷ []) ⊎ ((code : RefusalCode) × (s ≡ refusal_number code ∷ []))
-IsReturned true s = s ≡ 0 ∷ []
+IsReturned false bytes = (bytes ≡ 0 ∷ []) ⊎ ((code : RefusalCode) × (bytes ≡ refusal_number code ∷ []))
+IsReturned true bytes = bytes ≡ 0 ∷ []
 
--- s is a field of this kind
+-- `bytes` is a field of this kind.
 abbrev pub IsField : Field → List ℕ → Type 0
-IsField Number s = (n : ℕ) × (n < 65536) × (s ≡ number n)
-IsField Identifier s = (id : ℕ) × IsIdentifier id × (s ≡ number id)
-IsField AText s = (t : List ℕ) × Text t s
-IsField Name s = (t : List ℕ) × IsTopicName t × (s ≡ counted t)
-IsField Filter s = (t : List ℕ) × IsTopicFilter t × (s ≡ counted t)
-IsField Binary s = (t : List ℕ) × IsBinary t × (s ≡ counted t)
-IsField Protocol s = s ≡ counted (77 ∷ 81 ∷ 84 ∷ 84 ∷ [])
-IsField Level s = s ≡ 4 ∷ []
-IsField (Flags flags) s = s ≡ flags_byte flags ∷ []
-IsField (Present present) s = s ≡ bit present ∷ []
-IsField (Returned present) s = IsReturned present s
-IsField Requested s = (qos : Qos) × (s ≡ qos_number qos ∷ [])
-IsField Granted s = (code : SubAckCode) × (s ≡ code_number code ∷ [])
-IsField Payload s = Unit {0}
-IsField End s = s ≡ []
+IsField Number bytes = (value : ℕ) × (value < 65536) × (bytes ≡ number value)
+IsField Identifier bytes = (id : ℕ) × IsIdentifier id × (bytes ≡ number id)
+IsField AText bytes = (contents : List ℕ) × Text contents bytes
+IsField Name bytes = (contents : List ℕ) × IsTopicName contents × (bytes ≡ counted contents)
+IsField Filter bytes = (contents : List ℕ) × IsTopicFilter contents × (bytes ≡ counted contents)
+IsField Binary bytes = (contents : List ℕ) × IsBinary contents × (bytes ≡ counted contents)
+IsField Protocol bytes = bytes ≡ counted (77 ∷ 81 ∷ 84 ∷ 84 ∷ [])
+IsField Level bytes = bytes ≡ 4 ∷ []
+IsField (Flags flags) bytes = bytes ≡ flags_byte flags ∷ []
+IsField (Present present) bytes = bytes ≡ bit present ∷ []
+IsField (Returned present) bytes = IsReturned present bytes
+IsField Requested bytes = (qos : Qos) × (bytes ≡ qos_number qos ∷ [])
+IsField Granted bytes = (code : SubAckCode) × (bytes ≡ code_number code ∷ [])
+IsField Payload bytes = Unit {0}
+IsField End bytes = bytes ≡ []
 
--- `b` begins with such a field. The end is such a field only if nothing is left.
+-- `buffer` begins with such a field. The end is such a field only if nothing is left.
 abbrev pub Begins : Field → List ℕ → Type 0
-Begins field b = (s : List ℕ) × (rest : List ℕ) × IsField field s × (b ≡ s ++ rest)
+Begins field buffer = (front : List ℕ) × (rest : List ℕ) × IsField field front × (buffer ≡ front ++ rest)
 
 abbrev pub Stands : Field → List ℕ → Type 0
-Stands Number b = Begins Number b
-Stands Identifier b = Begins Identifier b
-Stands AText b = Begins AText b
-Stands Name b = Begins Name b
-Stands Filter b = Begins Filter b
-Stands Binary b = Begins Binary b
-Stands Protocol b = Begins Protocol b
-Stands Level b = Begins Level b
-Stands (Flags flags) b = Begins (Flags flags) b
-Stands (Present present) b = Begins (Present present) b
-Stands (Returned present) b = Begins (Returned present) b
-Stands Requested b = Begins Requested b
-Stands Granted b = Begins Granted b
-Stands Payload b = Begins Payload b
-Stands End b = b ≡ []
+Stands Number buffer = Begins Number buffer
+Stands Identifier buffer = Begins Identifier buffer
+Stands AText buffer = Begins AText buffer
+Stands Name buffer = Begins Name buffer
+Stands Filter buffer = Begins Filter buffer
+Stands Binary buffer = Begins Binary buffer
+Stands Protocol buffer = Begins Protocol buffer
+Stands Level buffer = Begins Level buffer
+Stands (Flags flags) buffer = Begins (Flags flags) buffer
+Stands (Present present) buffer = Begins (Present present) buffer
+Stands (Returned present) buffer = Begins (Returned present) buffer
+Stands Requested buffer = Begins Requested buffer
+Stands Granted buffer = Begins Granted buffer
+Stands Payload buffer = Begins Payload buffer
+Stands End buffer = buffer ≡ []
 
--- b is fields of these kinds, one after another
+-- `bytes` is fields of these kinds, one after another.
 abbrev pub Laid : List Field → List ℕ → Type 0
-Laid [] b = b ≡ []
-Laid (field ∷ more) b = (s : List ℕ) × (rest : List ℕ) × IsField field s × Laid more rest × (b ≡ s ++ rest)
+Laid [] bytes = bytes ≡ []
+Laid (field ∷ more) bytes = (first : List ℕ) × (rest : List ℕ) × IsField field first × Laid more rest × (bytes ≡ first ++ rest)
 
 -- The will and the login, if the flags announce them (3.1.3).
 abbrev pub will_layout : Option WillFlags → List Field
@@ -134,11 +134,11 @@ delivery_layout Q2 = Identifier ∷ []
 -- This many items, then the end.
 abbrev pub repeated : List Field → ℕ → List Field
 repeated item zero = End ∷ []
-repeated item (suc n) = item ++ repeated item n
+repeated item (suc count) = item ++ repeated item count
 
 -- an identifier, and at least one item (3.8, 3.9, 3.10)
 abbrev pub IsListLayout : List Field → List Field → Type 0
-IsListLayout item fields = (n : ℕ) × (fields ≡ Identifier ∷ (item ++ repeated item n))
+IsListLayout item fields = (count : ℕ) × (fields ≡ Identifier ∷ (item ++ repeated item count))
 
 -- the fields of a packet of this kind, in their order
 abbrev pub Layout : Kind → List Field → Type 0
@@ -170,12 +170,12 @@ text_fault_or own after =
 -- The fault of a field of one byte: the byte is missing; otherwise this one.
 abbrev pub byte_fault_or : FaultKind → List ℕ → FaultKind
 byte_fault_or own [] = PastEnd
-byte_fault_or own (b ∷ after) = own
+byte_fault_or own (byte ∷ after) = own
 
 -- The fault of the first field of an item: the list has no item; otherwise this one.
 abbrev pub item_fault_or : FaultKind → List ℕ → FaultKind
 item_fault_or own [] = EmptyList
-item_fault_or own (b ∷ after) = own
+item_fault_or own (byte ∷ after) = own
 
 -- The fault of a field that is invalid at the front of these bytes. A payload always is valid.
 abbrev pub fault_of : Field → List ℕ → FaultKind
@@ -209,23 +209,23 @@ pub record FirstBad (layout : List Field → Type 0) (front after : List ℕ) (k
   pub only : next ≡ End
       → (field : Field) (others : List Field) → layout (before ++ field ∷ others) → field ≡ End
 
--- `b` begins with a complete packet whose header is valid. Its first invalid field is at this
+-- `buffer` begins with a complete packet whose header is valid. Its first invalid field is at this
 -- place, and has this kind of fault.
-pub record BadFieldAt (limits : Bounds) (b : List ℕ) (k : FaultKind) (place : ℕ) : Type 0 where
+pub record BadFieldAt (limits : Bounds) (buffer : List ℕ) (cause : FaultKind) (place : ℕ) : Type 0 where
   pub first : ℕ
   pub len : List ℕ
   pub front : List ℕ
   pub after : List ℕ
   pub rest : List ℕ
-  pub bytes : b ≡ first ∷ len ++ ((front ++ after) ++ rest)
+  pub bytes : buffer ≡ first ∷ len ++ ((front ++ after) ++ rest)
   pub kind : Kind
   pub right : kind_at first ≡ Ok kind
   pub formed : LengthUnder limits.lenient (length (front ++ after)) len
-  pub bad : FirstBad (Layout kind) front after k
+  pub bad : FirstBad (Layout kind) front after cause
   pub here : place ≡ 1 + length len + length front
 
 -- The fault of a field is that of the first invalid field.
 abbrev pub FaultyFields : Type 0
 FaultyFields =
-    (limits : Bounds) (b : List ℕ) (k : FaultKind) (place : ℕ)
-    → AreBytes b → FieldFault limits b k place → BadFieldAt limits b k place
+    (limits : Bounds) (buffer : List ℕ) (cause : FaultKind) (place : ℕ)
+    → AreBytes buffer → FieldFault limits buffer cause place → BadFieldAt limits buffer cause place

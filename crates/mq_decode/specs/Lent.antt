@@ -27,7 +27,7 @@ connect_in (Err bad) = record { client_id = []; clean_session = false; keep_aliv
 
 -- The bytes behind the result.
 abbrev pub rest_of : {A : Type 0} → Result (A × List ℕ) BadField → Result (List ℕ) BadField
-rest_of (Ok x) = Ok x.1
+rest_of (Ok found) = Ok found.1
 rest_of (Err bad) = Err bad
 
 -- A test agrees with a reading: it passes, or reports the same fault.

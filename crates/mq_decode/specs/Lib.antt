@@ -3,9 +3,9 @@ pub mod Connects
 pub mod Copied
 pub mod Fault
 pub mod Fields
-pub mod Front
 pub mod Gives
 pub mod Grammar
+pub mod Inside
 pub mod Kind
 pub mod Laws
 pub mod Layout

@@ -8,8 +8,8 @@ pub record Bounds : Type 0 where
 
 -- no length has more bytes than it needs
 abbrev pub strict : ℕ → Bounds
-strict n = record { most = n; lenient = false }
+strict most = record { most = most; lenient = false }
 
 -- a length may
 abbrev pub loose : ℕ → Bounds
-loose n = record { most = n; lenient = true }
+loose most = record { most = most; lenient = true }

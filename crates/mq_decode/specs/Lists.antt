@@ -12,17 +12,17 @@ use Rattle.mq_decode.specs.Fields.{bad_at, identifier_at, filter_at, code_byte_a
 -- The items up to the end of the packet, at most this many.
 abbrev pub items_at : {A : Type 0} → (List ℕ → Result (A × List ℕ) BadField) → ℕ → List ℕ → Result (List A) BadField
 items_at item more [] = Ok []
-items_at item zero (b ∷ bytes) = Ok []
-items_at item (suc more) (b ∷ bytes) = item (b ∷ bytes) >>= λ x. items_at item more x.1 >>= λ xs. Ok (x.0 ∷ xs)
+items_at item zero (byte ∷ bytes) = Ok []
+items_at item (suc more) (byte ∷ bytes) = item (byte ∷ bytes) >>= λ first. items_at item more first.1 >>= λ rest. Ok (first.0 ∷ rest)
 
 -- At least one item. Each takes at least one byte, so there are at most as many as bytes.
 abbrev pub list_at : {A : Type 0} → (List ℕ → Result (A × List ℕ) BadField) → List ℕ → Result (List A) BadField
 list_at item [] = Err (bad_at EmptyList [])
-list_at item (b ∷ bytes) = items_at item (length (b ∷ bytes)) (b ∷ bytes)
+list_at item (byte ∷ bytes) = items_at item (length (byte ∷ bytes)) (byte ∷ bytes)
 
 -- an item of SUBSCRIBE (3.8.3): a filter and a quality of service
 unfoldable pub request_at : List ℕ → Result (Request × List ℕ) BadField
-request_at bytes = filter_at bytes >>= λ f. code_byte_at qos_from f.1 >>= λ q. Ok (record { filter = f.0; qos = q.0 }, q.1)
+request_at bytes = filter_at bytes >>= λ filter. code_byte_at qos_from filter.1 >>= λ qos. Ok (record { filter = filter.0; qos = qos.0 }, qos.1)
 
 -- an item of SUBACK (3.9.3)
 unfoldable pub suback_code_at : List ℕ → Result (SubAckCode × List ℕ) BadField

@@ -12,7 +12,7 @@ pub use Rattle.mq_decode.specs.Connects.{flags_from, will_from, login_from}
 pub use Rattle.mq_decode.specs.Copied.{counted_more, counted_next, Copies, Adds}
 pub use Rattle.mq_decode.specs.Fault.{fault_code, fault_number}
 pub use Rattle.mq_decode.specs.Fields.{filter_at, code_byte_at}
-pub use Rattle.mq_decode.specs.Front.{front_at, end_told, header_at, len_told}
+pub use Rattle.mq_decode.specs.Inside.Front.{front_at, end_told, header_at, len_told}
 pub use Rattle.mq_decode.specs.Gives.{BeginsWith, Same, EndsWith, Gives}
 pub use Rattle.mq_decode.specs.Grammar.{IsFront, Pending, ReadsWithin, Wants, Goes, Stops, Faulty, HasHeader, Appends, IsAlone, Takes}
 pub use Rattle.mq_decode.specs.Kind.{size_fault, kind_at, publish_kind, fixed_size}

@@ -15,7 +15,7 @@ use Rattle.mq_decode.specs.Grammar.{ReadsWithin, Faulty, Pending}
 
 -- the CONNECT whose fields these are
 abbrev pub connect_of : ConnectFields → Connect
-connect_of c = record { client_id = c.client_id; clean_session = c.clean_session; keep_alive = c.keep_alive; will = c.will; login = c.login }
+connect_of fields = record { client_id = fields.client_id; clean_session = fields.clean_session; keep_alive = fields.keep_alive; will = fields.will; login = fields.login }
 
 -- The packet behind a view.
 abbrev pub packet_of : PacketView → Packet
@@ -34,37 +34,37 @@ packet_of lent.PingReq = packets.PingReq
 packet_of lent.PingResp = packets.PingResp
 packet_of lent.Disconnect = packets.Disconnect
 
--- The front of `b`: a packet with its size, an incomplete packet, or a fault.
+-- The front of `buffer`: a packet with its size, an incomplete packet, or a fault.
 abbrev pub IsView : Bounds → List ℕ → View → Type 0
-IsView limits b (views.Whole packet n) = (n ≤ length b) × ReadsWithin limits (packet_of packet) (take n b)
-IsView limits b views.More = Pending limits b
-IsView limits b (views.Fault fault) = Faulty limits b fault.kind fault.place
+IsView limits buffer (views.Whole packet size) = (size ≤ length buffer) × ReadsWithin limits (packet_of packet) (take size buffer)
+IsView limits buffer views.More = Pending limits buffer
+IsView limits buffer (views.Fault fault) = Faulty limits buffer fault.kind fault.place
 
 -- The result of a view.
 abbrev pub view_read : View → Result (Option (Packet × ℕ)) DecodeFault
-view_read (views.Whole packet n) = Ok (Some (packet_of packet, n))
+view_read (views.Whole packet size) = Ok (Some (packet_of packet, size))
 view_read views.More = Ok None
 view_read (views.Fault fault) = Err fault
 
--- the fields of a PUBLISH end b
+-- The fields of a PUBLISH are the end of `buffer`.
 abbrev pub LiesAtEnd : List ℕ → PacketView → Type 0
-LiesAtEnd b (lent.Connect connect) = Unit {0}
-LiesAtEnd b (lent.ConnAck answer) = Unit {0}
-LiesAtEnd b (lent.Publish publish) = EndsWith b publish.fields
-LiesAtEnd b (lent.PubAck id) = Unit {0}
-LiesAtEnd b (lent.PubRec id) = Unit {0}
-LiesAtEnd b (lent.PubRel id) = Unit {0}
-LiesAtEnd b (lent.PubComp id) = Unit {0}
-LiesAtEnd b (lent.Subscribe id requests) = Unit {0}
-LiesAtEnd b (lent.SubAck id codes) = Unit {0}
-LiesAtEnd b (lent.Unsubscribe id filters) = Unit {0}
-LiesAtEnd b (lent.UnsubAck id) = Unit {0}
-LiesAtEnd b lent.PingReq = Unit {0}
-LiesAtEnd b lent.PingResp = Unit {0}
-LiesAtEnd b lent.Disconnect = Unit {0}
+LiesAtEnd buffer (lent.Connect connect) = Unit {0}
+LiesAtEnd buffer (lent.ConnAck answer) = Unit {0}
+LiesAtEnd buffer (lent.Publish publish) = EndsWith buffer publish.fields
+LiesAtEnd buffer (lent.PubAck id) = Unit {0}
+LiesAtEnd buffer (lent.PubRec id) = Unit {0}
+LiesAtEnd buffer (lent.PubRel id) = Unit {0}
+LiesAtEnd buffer (lent.PubComp id) = Unit {0}
+LiesAtEnd buffer (lent.Subscribe id requests) = Unit {0}
+LiesAtEnd buffer (lent.SubAck id codes) = Unit {0}
+LiesAtEnd buffer (lent.Unsubscribe id filters) = Unit {0}
+LiesAtEnd buffer (lent.UnsubAck id) = Unit {0}
+LiesAtEnd buffer lent.PingReq = Unit {0}
+LiesAtEnd buffer lent.PingResp = Unit {0}
+LiesAtEnd buffer lent.Disconnect = Unit {0}
 
 -- The packet that a view borrows ends with its bytes.
 abbrev pub LiesInFront : List ℕ → View → Type 0
-LiesInFront b (views.Whole packet n) = LiesAtEnd (take n b) packet
-LiesInFront b views.More = Unit {0}
-LiesInFront b (views.Fault fault) = Unit {0}
+LiesInFront buffer (views.Whole packet size) = LiesAtEnd (take size buffer) packet
+LiesInFront buffer views.More = Unit {0}
+LiesInFront buffer (views.Fault fault) = Unit {0}

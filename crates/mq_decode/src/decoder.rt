@@ -17,7 +17,9 @@ use std::marker::Model;
 
 /// Splits a stream, which arrives in pieces that are cut anywhere, into packets. Copies only the
 /// bytes of a packet that is incomplete in its piece; complete packets are read from the piece.
-/// After an error it holds nothing and returns the same error until [`reset`](Decoder::reset).
+/// Call [`feed`](Decoder::feed) for each piece, or [`next_packet`](Decoder::next_packet) with the
+/// rest of the piece until it returns `None`. After an error it holds nothing and returns the same
+/// error until [`reset`](Decoder::reset).
 #[derive(Debug, Drop)]
 pub struct Decoder {
     alloc: Global,

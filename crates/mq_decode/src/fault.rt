@@ -94,7 +94,7 @@ impl std::error::Error for FaultKind {}
 
 /// The first fault of a packet.
 #[derive(Clone, Copy, Debug, PartialEq, Eq, Error)]
-#[error("the bytes are no packet: {kind} at byte {place}")]
+#[error("the bytes are not a packet: {kind} at byte {place}")]
 pub struct DecodeFault {
     /// The kind of fault.
     pub kind: FaultKind,

@@ -20,7 +20,7 @@ use std::alloc::Global;
 /// The acknowledgement at the front (3.4 to 3.7, 3.11), whose only field is an identifier, if it is
 /// complete and valid.
 #[inline(always)]
-#[tactic(auto, unfolding(crate::specs::Front::front_at, crate::specs::Front::header_at, mq_wire::specs::Reading::read_length, crate::specs::Bodies::only_identifier_at, crate::specs::Fields::identifier_at, crate::specs::Fields::number_at))]
+#[tactic(auto, unfolding(crate::specs::Inside::Front::front_at, crate::specs::Inside::Front::header_at, mq_wire::specs::Reading::read_length, crate::specs::Bodies::only_identifier_at, crate::specs::Fields::identifier_at, crate::specs::Fields::number_at))]
 pub(crate) fn acknowledgement(limits: Limits, bytes: &[u8]) -> Option<PacketView<'_>>
     ensures read { IfSome result
         (λ packet. front_at limits bytes.now ≡ Ok (Some (packet_of packet, 4))) }
@@ -46,7 +46,7 @@ pub(crate) fn acknowledgement(limits: Limits, bytes: &[u8]) -> Option<PacketView
 
 /// The packet without fields at the front (3.12 to 3.14).
 #[inline(always)]
-#[tactic(auto, unfolding(crate::specs::Front::front_at, crate::specs::Front::header_at, mq_wire::specs::Reading::read_length))]
+#[tactic(auto, unfolding(crate::specs::Inside::Front::front_at, crate::specs::Inside::Front::header_at, mq_wire::specs::Reading::read_length))]
 pub(crate) fn bare_packet(limits: Limits, bytes: &[u8]) -> Option<PacketView<'_>>
     ensures read { IfSome result
         (λ packet. front_at limits bytes.now ≡ Ok (Some (packet_of packet, 2))) }
@@ -62,7 +62,7 @@ pub(crate) fn bare_packet(limits: Limits, bytes: &[u8]) -> Option<PacketView<'_>
 }
 
 // The front of the buffer in all other cases.
-#[tactic(auto, unfolding(crate::specs::Front::front_at))]
+#[tactic(auto, unfolding(crate::specs::Inside::Front::front_at))]
 fn read_any(limits: Limits, bytes: &[u8]) -> View<'_>
     ensures read { view_read result ≡ front_at limits bytes.now }
     ensures end { LiesInFront bytes.now result }
@@ -89,7 +89,7 @@ fn read_any(limits: Limits, bytes: &[u8]) -> View<'_>
 
 /// The PUBLISH at the front with its size, if it is complete and valid (3.3).
 #[inline(always)]
-#[tactic(auto, unfolding(crate::specs::Front::front_at))]
+#[tactic(auto, unfolding(crate::specs::Inside::Front::front_at))]
 pub(crate) fn publish_front(limits: Limits, bytes: &[u8]) -> Option<(PublishView<'_>, usize)>
     ensures read { IfSome result
         (λ x. front_at limits bytes.now ≡ Ok (Some (packets.Publish x.0.publish, x.1))) }
@@ -137,11 +137,12 @@ fn read_front(limits: Limits, bytes: &[u8]) -> View<'_>
 pub fn view<'a>(bytes: &'a [u8], limits: Limits) -> View<'a>
     ensures front { IsView limits bytes.now result }
     // All three cases are exact.
-    ensures whole { (p : Packet) (s rest : List ℕ) → ReadsWithin limits p s → bytes.now ≡ s ++ rest
-        → view_read result ≡ Ok (Some (p, length s)) }
+    ensures whole { (packet : Packet) (first rest : List ℕ)
+        → ReadsWithin limits packet first → bytes.now ≡ first ++ rest
+        → view_read result ≡ Ok (Some (packet, length first)) }
     ensures more { Pending limits bytes.now → result ≡ View.More }
-    ensures fault { (k : FaultKind) (place : ℕ) → Faulty limits bytes.now k place
-        → result ≡ View.Fault (record { kind = k; place = place }) }
+    ensures fault { (cause : FaultKind) (place : ℕ) → Faulty limits bytes.now cause place
+        → result ≡ View.Fault (record { kind = cause; place = place }) }
     // A PUBLISH ends with its packet.
     ensures end { LiesInFront bytes.now result }
 {

@@ -41,7 +41,7 @@ fn length_under(limits: Limits, bytes: &[u8]) -> LengthReading
 
 /// The header at the front of `bytes`, `None` if it is incomplete, or its fault.
 #[inline(always)]
-#[tactic(auto, unfolding(crate::specs::Front::header_at))]
+#[tactic(auto, unfolding(crate::specs::Inside::Front::header_at))]
 pub(crate) fn header_at(limits: Limits, bytes: &[u8]) -> Result<Option<Header>, DecodeFault>
     ensures read { result ≡ header_at limits bytes.now }
     ensures small { IfOk result (λ o. IfSome o (λ h. (0 < h.start) × (h.start ≤ 5) × (h.size < 2 ^ 28))) }
@@ -77,7 +77,7 @@ pub(crate) fn header_at(limits: Limits, bytes: &[u8]) -> Result<Option<Header>, 
 
 // The end of a packet of two or four bytes, or that its header is incomplete.
 #[inline(always)]
-#[tactic(auto, unfolding(crate::specs::Front::header_at, mq_wire::specs::Reading::read_length))]
+#[tactic(auto, unfolding(crate::specs::Inside::Front::header_at, mq_wire::specs::Reading::read_length))]
 fn short_end(limits: Limits, bytes: &[u8]) -> Option<Option<usize>>
     ensures { IfSome result (λ end. end_told (header_at limits bytes.now) ≡ Ok end) }
 {

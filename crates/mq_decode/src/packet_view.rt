@@ -26,21 +26,21 @@ pub enum View<'a> {
 /// lists in the buffer.
 #[derive(Debug, Drop)]
 pub enum PacketView<'a> {
-    /// A client asks for a connection (3.1).
+    /// The client requests a connection (3.1).
     Connect(ConnectView<'a>),
     /// The server's response to CONNECT (3.2).
     ConnAck(ConnAck),
-    /// A message (3.3).
+    /// An application message (3.3).
     Publish(PublishView<'a>),
-    /// A message of quality of service 1 has come (3.4).
+    /// Acknowledges a PUBLISH with QoS 1 (3.4).
     PubAck(PacketId),
-    /// A message of quality of service 2 has come (3.5).
+    /// Acknowledges a PUBLISH with QoS 2 (3.5).
     PubRec(PacketId),
-    /// Its identifier may be forgotten (3.6).
+    /// Releases a message with QoS 2 (3.6).
     PubRel(PacketId),
-    /// It is forgotten (3.7).
+    /// Completes the exchange of a message with QoS 2 (3.7).
     PubComp(PacketId),
-    /// A client subscribes (3.8).
+    /// The client requests subscriptions (3.8).
     Subscribe {
         /// The packet identifier.
         id: PacketId,
@@ -54,7 +54,7 @@ pub enum PacketView<'a> {
         /// The codes, at least one.
         codes: CodesView<'a>,
     },
-    /// A client gives subscriptions up (3.10).
+    /// The client cancels subscriptions (3.10).
     Unsubscribe {
         /// The packet identifier.
         id: PacketId,
@@ -65,9 +65,9 @@ pub enum PacketView<'a> {
     UnsubAck(PacketId),
     /// The client checks that the server is alive (3.12).
     PingReq,
-    /// It is (3.13).
+    /// The server's response to PINGREQ (3.13).
     PingResp,
-    /// A client leaves (3.14).
+    /// The client is about to close the connection (3.14).
     Disconnect,
 }
 

@@ -91,16 +91,18 @@ pub fn read_packet<R: Read>(
     limits: Limits,
 ) -> Result<Option<Packet>, ReadError>
     // The bytes taken are an encoding of the packet.
-    ensures packet { IfOk result (λ o. IfSome o (λ p. (s : List ℕ) × ReadsWithin limits p s
-        × Consumes (R.remaining reader.old) (R.remaining reader.new) s)) }
+    ensures packet { IfOk result (λ o. IfSome o (λ packet.
+        (bytes : List ℕ) × ReadsWithin limits packet bytes
+        × Consumes (R.remaining reader.old) (R.remaining reader.new) bytes)) }
     ensures none { IfOk result (λ o. IfNone o (IsAtEnd (R.remaining reader.old))) }
     ensures err { IfErr result (ReadStops limits (R.remaining reader.old)) }
     // Before an error no byte was taken past the one that shows it.
     ensures within { OnErr result
         (TakesWithin limits (R.remaining reader.old) (R.remaining reader.new)) }
     // A packet that remains is read, and the bytes behind it are left.
-    ensures again { (p : Packet) (s rest : List ℕ) → ReadsWithin limits p s
-        → R.remaining reader.old ≡ Some (s ++ rest) → Answers p rest result (R.remaining reader.new) }
+    ensures again { (packet : Packet) (first rest : List ℕ) → ReadsWithin limits packet first
+        → R.remaining reader.old ≡ Some (first ++ rest)
+        → Answers packet rest result (R.remaining reader.new) }
 {
     reads_again();
     let read = read_sized(alloc, reader, limits);

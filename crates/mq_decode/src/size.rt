@@ -21,8 +21,9 @@ fn len_told(limits: Limits, bytes: &[u8]) -> Option<usize>
 pub fn packet_len(limits: Limits, bytes: &[u8]) -> Option<usize>
     ensures header { (size : ℕ) → HasHeader limits bytes.now size → result ≡ Some size }
     ensures told { IfSome result (HasHeader limits bytes.now) }
-    ensures packet { (p : Packet) (s rest : List ℕ) → ReadsWithin limits p s → bytes.now ≡ s ++ rest
-        → result ≡ Some (length s) }
+    ensures packet { (packet : Packet) (first rest : List ℕ)
+        → ReadsWithin limits packet first → bytes.now ≡ first ++ rest
+        → result ≡ Some (length first) }
 {
     number_laws();
     text_laws();

@@ -12,7 +12,7 @@ pub data DurableCall : Type 0 where
   Collected : (conn : Conn) → DurableCall
   Continued : DurableCall
 
--- What a call changes. An event that came is pending, and a commit moves the pending events into
+-- The changes of a call. An arrived event is pending, and a commit moves the pending events into
 -- the file. Output is collected, and another file is begun, only while no event is pending. The
 -- broker is then the base of the new file.
 abbrev pub MakesCall : {D : Type 0} → (D → List ℕ) → DurableCall → DurableState D → DurableState D → Type 0

@@ -1,4 +1,4 @@
--- What contracts see of a durable broker.
+-- A durable broker as contracts see it.
 use Rattle.std.specs.Prelude.{◌≡◌, ◌≢◌, ◌⊎◌, ℕ, ◌+◌, ◌≤◌, ◌<◌, ◌^◌, List, ◌++◌, length, Some, Result, Ok, Err, if◌then◌else◌}
 use Rattle.mq_route.specs.declared.event.HubEvent.{HubEvent}
 use Rattle.mq_route.specs.declared.refusal.HubRefusal.{HubRefusal}
@@ -69,7 +69,7 @@ after_step result Broken = Broken
 
 -- the reply of a step for the front of a piece, without the number of bytes used
 abbrev pub reply_in : Result (HubReply × ℕ) StepRefusal → Result HubReply StepRefusal
-reply_in (Ok r) = Ok r.0
+reply_in (Ok reply) = Ok reply.0
 reply_in (Err why) = Err why
 
 -- the condition after a commit that failed

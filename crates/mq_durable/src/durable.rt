@@ -208,7 +208,7 @@ impl<D: Disk> Durable<D> {
     /// Takes the pending output of a connection. No event must be pending, so that the journal has
     /// each event of which the output is a result.
     ///
-    /// On `Err` nothing changes. Errors:
+    /// Errors:
     ///
     /// - `Hub` if the broker refuses, or if an allocation fails.
     /// - `Broken` if a commit failed before.
@@ -227,7 +227,7 @@ impl<D: Disk> Durable<D> {
     }
 
     /// Appends the pending events to the journal as one entry. On `Ok` they are durable, and their
-    /// output may be given out. Does nothing if no event is pending.
+    /// output may be sent. Does nothing if no event is pending.
     ///
     /// Errors, after which the process must end:
     ///
@@ -283,7 +283,7 @@ impl<D: Disk + Drop> Durable<D> {
     /// Commit nothing until a snapshot of the broker is durable: a start that reads the old file
     /// misses the events of the new one.
     ///
-    /// On `Err` nothing changes, and the old file may be used further. Errors:
+    /// On `Err` the old file may be used further. Errors:
     ///
     /// - `OutOfMemory` if a step reported that an allocation failed.
     /// - `Broken` if a commit failed before.

@@ -1,5 +1,4 @@
-//! A broker that outlives its process: its events are in a journal before their output is given
-//! out.
+//! A broker that outlives its process: its events are in a journal before their output is sent.
 //!
 //! Order of calls:
 //!
@@ -7,14 +6,14 @@
 //!    [`Recovery::replay`] with the bytes of the journal's file, and [`Recovery::end_all`].
 //! 2. [`Durable::new`] with that broker and an empty file. A snapshot of the broker must be durable
 //!    before the first commit.
-//! 3. In each round [`Durable::step`] or [`Durable::step_some`] for the events that came, then
+//! 3. In each round [`Durable::step`] or [`Durable::step_some`] for the events that arrived, then
 //!    [`Durable::commit`], then [`Durable::collect`] for each connection that may have output.
 //! 4. If the file is long, [`Durable::continue_in`] after a commit, and then a new snapshot.
-//! 5. If `commit` returns an error, the process must end without giving out any output. It
-//!    continues at 1.
+//! 5. If `commit` returns an error, the process must end without sending any output. It continues
+//!    at 1.
 //!
 //! `collect` requires that no event is pending. So at any time the snapshot and the file have each
-//! event that came before the last output was collected.
+//! event that arrived before the last output was collected.
 //!
 //! The events of a file are those of its entries. `Collect` is not recorded: it only takes pending
 //! output, which a crash discards.

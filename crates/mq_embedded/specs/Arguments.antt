@@ -41,5 +41,5 @@ pub record AreRequestParts (filter : List ℕ) (qos : ℕ) : Type 0 where
 -- A list of one request, for this filter (3.8).
 abbrev pub IsRequestOf : List ℕ → ℕ → List Request → Type 0
 IsRequestOf filter qos [] = ⊥
-IsRequestOf filter qos (r ∷ []) = (r.filter ≡ filter) × (qos_number r.qos ≡ qos)
-IsRequestOf filter qos (r ∷ s ∷ rs) = ⊥
+IsRequestOf filter qos (request ∷ []) = (request.filter ≡ filter) × (qos_number request.qos ≡ qos)
+IsRequestOf filter qos (request ∷ second ∷ rest) = ⊥

@@ -86,15 +86,15 @@ number_of (Some id) = id
 -- The end accepts the message with these parts.
 abbrev pub AcceptsParts : List ℕ → List ℕ → ℕ → Bool → ℕ → WithEvents → WithEvents → Type 0
 AcceptsParts topic payload qos retain id old new =
-    (m : Message) × IsMessageOf topic payload qos retain m
-    × (answer : Option ℕ) × Accepts answer m old.end.link new.end.link × (id ≡ number_of answer)
+    (message : Message) × IsMessageOf topic payload qos retain message
+    × (answer : Option ℕ) × Accepts answer message old.end.link new.end.link × (id ≡ number_of answer)
     × (new.end.config ≡ old.end.config) × (new.events ≡ old.events)
 
 -- Why an end refuses the message with these parts.
 abbrev pub RefusesParts : List ℕ → List ℕ → ℕ → Bool → ClientState → CallFault → Type 0
 RefusesParts topic payload qos retain end why =
-    (m : Message) × IsMessageOf topic payload qos retain m
-    × IsRefusedFor (publish_refusal end.link.limit.most end.link.capacity m end.link.end) why
+    (message : Message) × IsMessageOf topic payload qos retain message
+    × IsRefusedFor (publish_refusal end.link.limit.most end.link.capacity message end.link.end) why
 
 abbrev pub Publishes : List ℕ → List ℕ → ℕ → Bool → WithEvents → WithEvents → Result ℕ CallFault → Type 0
 Publishes topic payload qos retain old new (Ok id) =
@@ -164,8 +164,8 @@ saved_of client =
     saved_form_two client.end.config.id client.end.link.end.known (kept_session client.end.link)
 
 abbrev pub Saves : WithEvents → List ℕ → List ℕ → Result ℕ CallFault → Type 0
-Saves client room filled (Ok n) =
-    (n ≡ length (saved_of client)) × (filled ≡ saved_of client ++ drop n room)
+Saves client room filled (Ok count) =
+    (count ≡ length (saved_of client)) × (filled ≡ saved_of client ++ drop count room)
 Saves client room filled (Err faults.Room) =
     (length room < length (saved_of client)) × (filled ≡ room)
 Saves client room filled (Err why) = (why ≡ faults.Memory) × (filled ≡ room)
@@ -177,13 +177,13 @@ IsIdle client =
 
 -- The numbers of an event.
 abbrev pub ShowsMessage : Event → Message → Type 0
-ShowsMessage event m =
-    (event.kind ≡ 2) × (event.qos ≡ qos_number m.qos) × (event.retain ≡ m.retain)
-    × (event.topic_size ≡ length m.topic) × (event.size ≡ length m.topic + length m.payload)
+ShowsMessage event message =
+    (event.kind ≡ 2) × (event.qos ≡ qos_number message.qos) × (event.retain ≡ message.retain)
+    × (event.topic_size ≡ length message.topic) × (event.size ≡ length message.topic + length message.payload)
 
 abbrev pub ShowsEvent : Event → Happening → Type 0
 ShowsEvent event (happens.Up present) = (event.kind ≡ 1) × (event.session_present ≡ present) × (event.size ≡ 0)
-ShowsEvent event (happens.Handed m) = ShowsMessage event m
+ShowsEvent event (happens.Handed message) = ShowsMessage event message
 ShowsEvent event (happens.Subscribe id requests) = event.size ≡ 0
 ShowsEvent event (happens.Unsubscribe id filters) = event.size ≡ 0
 ShowsEvent event (happens.SubAck id codes) = (event.kind ≡ 3) × (event.id ≡ id) × (event.size ≡ length codes)
@@ -192,7 +192,7 @@ ShowsEvent event happens.Pong = (event.kind ≡ 5) × (event.size ≡ 0)
 
 -- The bytes of an event.
 abbrev pub event_bytes : Happening → List ℕ
-event_bytes (happens.Handed m) = m.topic ++ m.payload
+event_bytes (happens.Handed message) = message.topic ++ message.payload
 event_bytes (happens.SubAck id codes) = flat_map code_fields codes
 event_bytes happening = []
 

@@ -4,4 +4,4 @@ use Rattle.mq_end.specs.declared.happening.Happening.{Happening}
 use Rattle.mq_embedded.specs.declared.queue.Queue.{Queue}
 
 abbrev pub queued : Queue → List Happening
-queued q = option_to_list q.first ++ unwrap_or q.rest []
+queued queue = option_to_list queue.first ++ unwrap_or queue.rest []

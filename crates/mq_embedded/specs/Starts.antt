@@ -33,7 +33,7 @@ RefusesSaved config saved why =
     ((why ≡ faults.AnotherClient) × NamesAnother saved.client config.id)
     ⊎ ((why ≡ faults.TooLarge) × (FitsWithin config.limits.most saved.session → ⊥))
 
--- Why these bytes are no saved session: they are none, or an allocation failed.
+-- The error for these bytes: they are not a saved session, or an allocation failed.
 abbrev pub IsLoadFault : List ℕ → CallFault → Type 0
 IsLoadFault bytes why = (why ≡ faults.Memory) ⊎ ((why ≡ faults.Session) × (IsSavedSession bytes → ⊥))
 

@@ -20,3 +20,4 @@ pub mod Rooms
 pub mod Readiness
 pub mod Rises
 pub mod Digits
+pub mod Unsent

@@ -19,7 +19,7 @@ use Rattle.mq_end.specs.Both.{has_identifier, publishes_at}
 use Rattle.mq_end.specs.Sizes.{publish_size}
 use Rattle.mq_end.specs.State.{EndState, Room, EncodesAll, PutsOut}
 use Rattle.mq_end.specs.Publishing.{Accepts, room_left}
-use Rattle.mq_end.specs.Ready.{AreEncodable, HasRoom, whole_size, packets_size, publishes_size, size_at_once}
+use Rattle.mq_end.specs.Ready.{AreEncodable, CanSend, FitsRoom, HasRoom, whole_size, packets_size, publishes_size, size_at_once}
 use Rattle.mq_end.specs.declared.happening.Happening.{Happening}
 use Rattle.mq_end.specs.declared.reason.CloseReason.{CloseReason}
 use Rattle.mq_end.specs.declared.reason.CloseReason.TheVariants as reasons
@@ -80,6 +80,11 @@ behind_within p old new h =
     let e = ap length h.2 ∙ length-append old h.0 in
     let few = encoded_within p h.0 h.1 in
     omega arith
+
+-- Packets with room can be sent.
+pub fits_sends : (ps : List Packet) (s : EndState) → FitsRoom ps s → CanSend ps s
+fits_sends [] s h = tt
+fits_sends (p ∷ ps) s h = h
 
 pub sizes_joined : (ps qs : List Packet) → packets_size (ps ++ qs) ≡ packets_size ps + packets_size qs
 sizes_joined [] qs = omega arith

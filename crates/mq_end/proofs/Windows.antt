@@ -25,10 +25,11 @@ use Rattle.mq_end.specs.declared.reason.CloseReason.{CloseReason}
 use Rattle.mq_end.specs.declared.reason.CloseReason.TheVariants as reasons
 use Rattle.mq_end.specs.declared.role.Role.{Role}
 use Rattle.mq_end.specs.declared.role.Role.TheVariants.{Client, Server}
-use Rattle.mq_end.specs.End.{End, Reply, tells, over, closes, comes_up, renewed, is_up, one_by_one}
-use Rattle.mq_end.specs.Both.{stores, publish_gets, flow_gets}
-use Rattle.mq_end.specs.Client.{connack_gets, client_open_gets, client_up_gets, client_gets_in, client_gets}
+use Rattle.mq_end.specs.End.{End, Reply, silent, tells, over, closes, comes_up, renewed, is_up, one_by_one}
+use Rattle.mq_end.specs.Both.{stores, publish_gets, flow_gets, publishes_at}
+use Rattle.mq_end.specs.Client.{connack_gets, client_open_gets, client_up_gets, client_gets_in, client_gets, connects}
 use Rattle.mq_end.specs.Server.{connect_gets, refuses, level_refused, server_open_gets, server_up_gets, server_gets_in, server_gets}
+use Rattle.mq_end.specs.KeepAlive.{is_late, server_ticks}
 use Rattle.mq_end.specs.State.{EndState, is_level, client_faulted, server_faulted}
 use Rattle.mq_end.specs.Receiving.{Ending, Waits, Closes, Breaks, Starves, ReceivesAs}
 use Rattle.mq_end.specs.Laws.{KeepsWindow, WindowLaws}
@@ -118,8 +119,33 @@ pub all_window : (does : Packet → End → Reply) → ((p : Packet) (e : End) �
 all_window does each [] e = still e
 all_window does each (p ∷ ps) e = window_then e (does p e).end (one_by_one does ps (does p e).end).end (each p e) (all_window does each ps (does p e).end)
 
+-- ---- calls
+
+publishes_window : (q : Qos) (i : ℕ) (m : Message) (e : End) → KeepsWindow e (publishes_at q i m e).end
+publishes_window Q0 i m e = still e
+publishes_window Q1 i m e = still e
+publishes_window Q2 i m e = still e
+
+connects_window : (c : Connect) (e : End) → KeepsWindow e (connects c e).end
+connects_window c e = window_then e (over e) (renewed c.clean_session (over e)) (over_window e) (renewed_window c.clean_session (over e))
+
+ticks_window : (last now : ℕ) (e : End) → KeepsWindow e (server_ticks last now e).end
+ticks_window last now e = cond_both (is_up e.state && is_late last e.keep_alive now) (closes reasons.KeepAlive e) (silent e) (λ r. KeepsWindow e r.end) (λ t. over_window e) (λ f. still e)
+
 pub laws : WindowLaws
-laws = record { client = all_window client_gets client_keeps; server = all_window server_gets server_keeps }
+laws = record {
+  client = all_window client_gets client_keeps;
+  server = all_window server_gets server_keeps;
+  publish = λ i m e. publishes_window m.qos i m e;
+  subscribe = λ i requests e. still e;
+  unsubscribe = λ i filters e. still e;
+  connect = connects_window;
+  opened = over_window;
+  late = ticks_window;
+  leave = over_window;
+  drop = over_window;
+  again = window_then;
+}
 
 -- ---- bytes
 

@@ -5,7 +5,7 @@ use Rattle.mq_end.specs.KeepAlive.{is_late}
 
 -- The server is connected and its client is late, so `tick` closes it.
 abbrev pub is_overdue : ℕ → ℕ → End → Bool
-is_overdue last now e = is_up e.state && is_late last e.keep_alive now
+is_overdue last now end = is_up end.state && is_late last end.keep_alive now
 
 -- Something is due at just the times from the deadline on. Without a deadline it is due at no time
 -- of 64 bits.

@@ -61,56 +61,56 @@ is_live Connected = true
 
 -- nothing comes of it but the end
 abbrev pub silent : End → Reply
-silent e = record { end = e; out = []; happenings = []; freed = []; close = None }
+silent end = record { end = end; out = []; happenings = []; freed = []; close = None }
 
 -- It sends packets.
 abbrev pub puts_out : List Packet → End → Reply
-puts_out ps e = record { end = e; out = ps; happenings = []; freed = []; close = None }
+puts_out packets end = record { end = end; out = packets; happenings = []; freed = []; close = None }
 
 -- It reports an event.
 abbrev pub tells : Happening → End → Reply
-tells h e = record { end = e; out = []; happenings = h ∷ []; freed = []; close = None }
+tells happening end = record { end = end; out = []; happenings = happening ∷ []; freed = []; close = None }
 
 -- The connection is over. The identifiers of SUBSCRIBE and UNSUBSCRIBE are free; the rest of the
 -- session stays, but one of a CONNECT with clean session 1 ends with its connection, however that
 -- ends: the client then has a new session that was never established, the server has none
 -- (3.1.2.4).
 abbrev pub over : End → End
-over e = record e {
-  book = if e.clean then blank_book else no_claims e.book;
-  received = if e.clean then none_received else e.received;
-  last = if e.clean then 0 else e.last;
+over end = record end {
+  book = if end.clean then blank_book else no_claims end.book;
+  received = if end.clean then none_received else end.received;
+  last = if end.clean then 0 else end.last;
   state = Disconnected;
-  known = if e.clean then false else e.known;
+  known = if end.clean then false else end.known;
   clean = false;
   keep_alive = 0;
 }
 
 -- the end closes the connection (4.8), after these packets
 abbrev pub closes_after : List Packet → CloseReason → End → Reply
-closes_after ps reason e = record { end = over e; out = ps; happenings = []; freed = []; close = Some reason }
+closes_after packets reason end = record { end = over end; out = packets; happenings = []; freed = []; close = Some reason }
 
 -- It closes the connection and sends nothing (4.8).
 abbrev pub closes : CloseReason → End → Reply
-closes reason e = closes_after [] reason e
+closes reason end = closes_after [] reason end
 
 -- A connection begins to which clean session applies or not: with 1 the session before is
 -- discarded, with 0 it continues (3.1.2.4).
 abbrev pub renewed : Bool → End → End
-renewed clean e = record e {
-  book = if clean then blank_book else e.book;
-  received = if clean then none_received else e.received;
-  last = if clean then 0 else e.last;
-  known = if clean then false else e.known;
+renewed clean end = record end {
+  book = if clean then blank_book else end.book;
+  received = if clean then none_received else end.received;
+  last = if clean then 0 else end.last;
+  known = if clean then false else end.known;
   clean = clean;
 }
 
 -- The end is connected: after these packets it retransmits all unacknowledged messages (4.4), and
 -- sends those accepted since for the first time.
 abbrev pub comes_up : List Packet → Bool → End → Reply
-comes_up before session_present e = record {
-  end = record e { state = Connected; known = true; book = all_sent e.book };
-  out = before ++ resent e.book;
+comes_up before session_present end = record {
+  end = record end { state = Connected; known = true; book = all_sent end.book };
+  out = before ++ resent end.book;
   happenings = happens.Up session_present ∷ [];
   freed = [];
   close = None;
@@ -118,7 +118,7 @@ comes_up before session_present e = record {
 
 -- the connection is lost (4.2)
 abbrev pub drops : End → Reply
-drops e = silent (over e)
+drops end = silent (over end)
 
 -- ---- packets that come at once
 
@@ -129,15 +129,15 @@ first_reason None later = later
 
 -- one reply after another
 abbrev pub followed : Reply → Reply → Reply
-followed r s = record {
-  end = s.end;
-  out = r.out ++ s.out;
-  happenings = r.happenings ++ s.happenings;
-  freed = r.freed ++ s.freed;
-  close = first_reason r.close s.close;
+followed first second = record {
+  end = second.end;
+  out = first.out ++ second.out;
+  happenings = first.happenings ++ second.happenings;
+  freed = first.freed ++ second.freed;
+  close = first_reason first.close second.close;
 }
 
 -- packets arrive one after another (4.6) to an end that does this with each
 abbrev pub one_by_one : (Packet → End → Reply) → List Packet → End → Reply
-one_by_one does [] e = silent e
-one_by_one does (p ∷ ps) e = followed (does p e) (one_by_one does ps (does p e).end)
+one_by_one does [] end = silent end
+one_by_one does (packet ∷ rest) end = followed (does packet end) (one_by_one does rest (does packet end).end)

@@ -19,21 +19,21 @@ is_due since keep_alive now = nat_lt 0 keep_alive && nat_le (since + 1000 * keep
 
 -- The client is connected and a PINGREQ is due (3.12).
 abbrev pub pings : ℕ → ℕ → End → Bool
-pings since now e = is_up e.state && is_due since e.keep_alive now
+pings since now end = is_up end.state && is_due since end.keep_alive now
 
 -- The client's `tick`: it sends PINGREQ if one is due (3.12). It never closes.
 abbrev pub client_ticks : ℕ → ℕ → End → Reply
-client_ticks since now e = puts_out (if pings since now e then packets.PingReq ∷ [] else []) e
+client_ticks since now end = puts_out (if pings since now end then packets.PingReq ∷ [] else []) end
 
 -- The time of its CONNECT or last PINGREQ, after the call (3.1.2.10).
 abbrev pub client_since : ℕ → ℕ → End → ℕ
-client_since since now e = if pings since now e then now else since
+client_since since now end = if pings since now end then now else since
 
 -- The server's `tick`: it closes a connected end whose client is late (3.1.2.10).
 abbrev pub server_ticks : ℕ → ℕ → End → Reply
-server_ticks last now e = if is_up e.state && is_late last e.keep_alive now then closes reasons.KeepAlive e else silent e
+server_ticks last now end = if is_up end.state && is_late last end.keep_alive now then closes reasons.KeepAlive end else silent end
 
 -- The laws of keep-alive (3.1.2.10).
 pub record KeepAliveLaws : Type 0 where
   pub late : (last keep_alive now : ℕ) → is_late last keep_alive now ≡ true ↔ Late last keep_alive now
-  pub closes_late : (last now : ℕ) (e : End) → (server_ticks last now e).close ≡ Some reasons.KeepAlive ↔ ((is_up e.state ≡ true) × Late last e.keep_alive now)
+  pub closes_late : (last now : ℕ) (end : End) → (server_ticks last now end).close ≡ Some reasons.KeepAlive ↔ ((is_up end.state ≡ true) × Late last end.keep_alive now)

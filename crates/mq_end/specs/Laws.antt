@@ -18,47 +18,62 @@ use Rattle.mq_end.specs.KeepAlive.{server_ticks}
 
 -- The identifier is free, if the message needs one (2.3.1).
 abbrev pub MayHave : Bool → End → ℕ → Type 0
-MayHave true e i = IsFree e.book i
-MayHave false e i = Unit {0}
+MayHave true end id = IsFree end.book id
+MayHave false end id = Unit {0}
 
 -- the identifiers in use at the end are sound (2.3.1)
 abbrev pub IsSoundEnd : ℕ → End → Type 0
-IsSoundEnd capacity e = IsSound capacity e.book
+IsSoundEnd capacity end = IsSound capacity end.book
 
 -- Whatever an end processes and whatever its user asks, its identifiers in use stay sound (2.3.1).
 pub record SoundLaws : Type 0 where
-  pub client : (capacity : ℕ) (p : Packet) (e : End) → IsSoundEnd capacity e → IsSoundEnd capacity (client_gets p e).end
-  pub server : (capacity : ℕ) (p : Packet) (e : End) → IsSoundEnd capacity e → IsSoundEnd capacity (server_gets p e).end
-  pub publish : (limit capacity i : ℕ) (m : Message) (e : End) → publish_refusal limit capacity m e ≡ None → MayHave (has_identifier m.qos) e i → IsSoundEnd capacity e → IsSoundEnd capacity (publishes i m e).end
-  pub published : (limit capacity i : ℕ) (m : Message) (e : End) → publish_refusal limit capacity m e ≡ None → has_identifier m.qos ≡ true → IsFree e.book i → IsGiven capacity e.book (publishes i m e).end.book i
-  pub subscribe : (limit capacity i : ℕ) (requests : List Request) (e : End) → subscribe_refusal limit capacity requests e ≡ None → IsFree e.book i → IsSoundEnd capacity e → IsSoundEnd capacity (subscribes i requests e).end
-  pub unsubscribe : (limit capacity i : ℕ) (filters : List (List ℕ)) (e : End) → unsubscribe_refusal limit capacity filters e ≡ None → IsFree e.book i → IsSoundEnd capacity e → IsSoundEnd capacity (unsubscribes i filters e).end
-  pub connect : (capacity : ℕ) (c : Connect) (e : End) → IsSoundEnd capacity e → IsSoundEnd capacity (connects c e).end
-  pub opened : (capacity : ℕ) (e : End) → IsSoundEnd capacity e → IsSoundEnd capacity (opens e).end
-  pub leave : (capacity : ℕ) (e : End) → IsSoundEnd capacity e → IsSoundEnd capacity (leaves e).end
-  pub drop : (capacity : ℕ) (e : End) → IsSoundEnd capacity e → IsSoundEnd capacity (drops e).end
+  pub client : (capacity : ℕ) (packet : Packet) (end : End) → IsSoundEnd capacity end → IsSoundEnd capacity (client_gets packet end).end
+  pub server : (capacity : ℕ) (packet : Packet) (end : End) → IsSoundEnd capacity end → IsSoundEnd capacity (server_gets packet end).end
+  pub publish : (limit capacity id : ℕ) (message : Message) (end : End) → publish_refusal limit capacity message end ≡ None → MayHave (has_identifier message.qos) end id → IsSoundEnd capacity end
+      → IsSoundEnd capacity (publishes id message end).end
+  pub published : (limit capacity id : ℕ) (message : Message) (end : End) → publish_refusal limit capacity message end ≡ None → has_identifier message.qos ≡ true → IsFree end.book id
+      → IsGiven capacity end.book (publishes id message end).end.book id
+  pub subscribe : (limit capacity id : ℕ) (requests : List Request) (end : End) → subscribe_refusal limit capacity requests end ≡ None → IsFree end.book id → IsSoundEnd capacity end
+      → IsSoundEnd capacity (subscribes id requests end).end
+  pub unsubscribe : (limit capacity id : ℕ) (filters : List (List ℕ)) (end : End) → unsubscribe_refusal limit capacity filters end ≡ None → IsFree end.book id → IsSoundEnd capacity end
+      → IsSoundEnd capacity (unsubscribes id filters end).end
+  pub connect : (capacity : ℕ) (opening : Connect) (end : End) → IsSoundEnd capacity end → IsSoundEnd capacity (connects opening end).end
+  pub opened : (capacity : ℕ) (end : End) → IsSoundEnd capacity end → IsSoundEnd capacity (opens end).end
+  pub leave : (capacity : ℕ) (end : End) → IsSoundEnd capacity end → IsSoundEnd capacity (leaves end).end
+  pub drop : (capacity : ℕ) (end : End) → IsSoundEnd capacity end → IsSoundEnd capacity (drops end).end
 
--- If a packet or call closes the connection, the session is as it was just before, without the
--- identifiers of SUBSCRIBE and UNSUBSCRIBE; after clean session 1 it ends (3.1.2.4).
+-- If a packet or call closes the connection, the session is unchanged, except that the identifiers
+-- of SUBSCRIBE and UNSUBSCRIBE are free; after clean session 1 it ends (3.1.2.4).
 pub record ClosingLaws : Type 0 where
-  pub client : (p : Packet) (e : End) (reason : CloseReason) → (client_gets p e).close ≡ Some reason → (client_gets p e).end ≡ over e
-  pub server : (p : Packet) (e : End) (reason : CloseReason) → (server_gets p e).close ≡ Some reason → (server_gets p e).end ≡ over e
-  pub level : (e : End) → (level_refused e).end ≡ over e
-  pub late : (last now : ℕ) (e : End) (reason : CloseReason) → (server_ticks last now e).close ≡ Some reason → (server_ticks last now e).end ≡ over e
-  pub leave : (e : End) → (leaves e).end ≡ over e
-  pub closed : (e : End) → (over e).state ≡ Disconnected
-  pub keeps : (e : End) → e.clean ≡ false → ((over e).book ≡ no_claims e.book) × ((over e).received ≡ e.received) × ((over e).known ≡ e.known)
-  pub discards : (e : End) → e.clean ≡ true → ((over e).book ≡ blank_book) × ((over e).received ≡ none_received) × ((over e).known ≡ false)
+  pub client : (packet : Packet) (end : End) (reason : CloseReason) → (client_gets packet end).close ≡ Some reason → (client_gets packet end).end ≡ over end
+  pub server : (packet : Packet) (end : End) (reason : CloseReason) → (server_gets packet end).close ≡ Some reason → (server_gets packet end).end ≡ over end
+  pub level : (end : End) → (level_refused end).end ≡ over end
+  pub late : (last now : ℕ) (end : End) (reason : CloseReason) → (server_ticks last now end).close ≡ Some reason → (server_ticks last now end).end ≡ over end
+  pub leave : (end : End) → (leaves end).end ≡ over end
+  pub closed : (end : End) → (over end).state ≡ Disconnected
+  pub keeps : (end : End) → end.clean ≡ false → ((over end).book ≡ no_claims end.book) × ((over end).received ≡ end.received) × ((over end).known ≡ end.known)
+  pub discards : (end : End) → end.clean ≡ true → ((over end).book ≡ blank_book) × ((over end).received ≡ none_received) × ((over end).known ≡ false)
   -- a closed end takes nothing in
-  pub client_ignores : (ps : List Packet) (e : End) → e.state ≡ Disconnected → client_gets_all ps e ≡ silent e
-  pub server_ignores : (ps : List Packet) (e : End) → e.state ≡ Disconnected → server_gets_all ps e ≡ silent e
+  pub client_ignores : (packets : List Packet) (end : End) → end.state ≡ Disconnected → client_gets_all packets end ≡ silent end
+  pub server_ignores : (packets : List Packet) (end : End) → end.state ≡ Disconnected → server_gets_all packets end ≡ silent end
 
 -- From one end to the next: the window is the same, and at most as many identifiers are stored as
 -- it has or as were stored before.
 abbrev pub KeepsWindow : End → End → Type 0
-KeepsWindow e f = (f.window ≡ e.window) × IsWithin e.window e.received f.received
+KeepsWindow before after = (after.window ≡ before.window) × IsWithin before.window before.received after.received
 
--- Whatever arrives, the receive window stays the same and bounds the stored identifiers (4.3.3).
+-- Whatever arrives and whatever its user asks, the receive window stays the same and bounds the
+-- stored identifiers (4.3.3).
 pub record WindowLaws : Type 0 where
-  pub client : (ps : List Packet) (e : End) → KeepsWindow e (client_gets_all ps e).end
-  pub server : (ps : List Packet) (e : End) → KeepsWindow e (server_gets_all ps e).end
+  pub client : (packets : List Packet) (end : End) → KeepsWindow end (client_gets_all packets end).end
+  pub server : (packets : List Packet) (end : End) → KeepsWindow end (server_gets_all packets end).end
+  pub publish : (identifier : ℕ) (message : Message) (end : End) → KeepsWindow end (publishes identifier message end).end
+  pub subscribe : (identifier : ℕ) (requests : List Request) (end : End) → KeepsWindow end (subscribes identifier requests end).end
+  pub unsubscribe : (identifier : ℕ) (filters : List (List ℕ)) (end : End) → KeepsWindow end (unsubscribes identifier filters end).end
+  pub connect : (packet : Connect) (end : End) → KeepsWindow end (connects packet end).end
+  pub opened : (end : End) → KeepsWindow end (opens end).end
+  pub late : (last now : ℕ) (end : End) → KeepsWindow end (server_ticks last now end).end
+  pub leave : (end : End) → KeepsWindow end (leaves end).end
+  pub drop : (end : End) → KeepsWindow end (drops end).end
+  -- so it does over several of these
+  pub again : (first second third : End) → KeepsWindow first second → KeepsWindow second third → KeepsWindow first third

@@ -3,9 +3,9 @@ pub mod Client
 pub mod Codes
 pub mod Deadline
 pub mod End
+pub mod Inside
 pub mod KeepAlive
 pub mod Laws
-pub mod Opening
 pub mod Prelude
 pub mod Publishing
 pub mod Ready

@@ -20,9 +20,9 @@ pub use Rattle.mq_end.specs.Deadline.{IsDeadline, is_overdue}
 pub use Rattle.mq_end.specs.End.{blank_end, is_live, over, resumed, End, renewed, comes_up, Reply, closes, is_up, puts_out}
 pub use Rattle.mq_end.specs.KeepAlive.{pings, KeepAliveLaws, is_due, is_late, server_ticks}
 pub use Rattle.mq_end.specs.Laws.{KeepsWindow, ClosingLaws, SoundLaws, WindowLaws}
-pub use Rattle.mq_end.specs.Opening.{accepts_connect, connack_in, terms_get, terms_in, terms_of}
+pub use Rattle.mq_end.specs.Inside.Opening.{accepts_connect, connack_in, terms_get, terms_in, terms_of}
 pub use Rattle.mq_end.specs.Publishing.{Accepts, connect_of}
-pub use Rattle.mq_end.specs.Ready.{whole_size, AreEncodable, FitsRoom, is_exactly_once, HasRoom, size_at_once, publishes_size, packets_size, HasRise, CanRise}
+pub use Rattle.mq_end.specs.Ready.{whole_size, AreEncodable, FitsRoom, CanSend, is_exactly_once, is_plain, HasRoom, size_at_once, publishes_size, packets_size, HasRise, CanRise}
 pub use Rattle.mq_end.specs.ReadyLaws.{ReadyLaws}
 pub use Rattle.mq_end.specs.Receiving.{Acts, ClientReceives, ClientTakes, Gives, outcome_of, Makes, Stays, gets_as, HeardAs, Hears, IsBreak, ReceivesAs, Shows, TakesAs, TakesNext, TakesPacket, heard_as, is_answered, no_outcome, HearsAt, ServerReceives, TakesOne}
 pub use Rattle.mq_end.specs.Requests.{Requests, Ticks}

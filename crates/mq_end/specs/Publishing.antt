@@ -11,16 +11,16 @@ use Rattle.mq_end.specs.State.{EndState, PutsOut, Room}
 -- the room of an end that accepted a message of this quality of service: one with an identifier
 -- takes a place
 abbrev pub room_left : Qos → Room → Room
-room_left qos r = record r { messages = if has_identifier qos then r.messages - 1 else r.messages }
+room_left qos room = record room { messages = if has_identifier qos then room.messages - 1 else room.messages }
 
 -- A message is accepted. The call returns its identifier if it has QoS 1 or 2: the first free one
 -- after the one assigned last (2.3.1). A connected end sends it at once.
-pub record Accepts (answer : Option ℕ) (m : Message) (old new : EndState) : Type 0 where
+pub record Accepts (answer : Option ℕ) (message : Message) (old new : EndState) : Type 0 where
   pub id : ℕ
-  pub answered : answer ≡ answered_identifier m.qos id
-  pub first : has_identifier m.qos ≡ true → IsFirstFree old.end.last old.end.book id
-  pub out : PutsOut (publishes id m old.end).out old.output new.output
-  pub state : new ≡ record old { end = (publishes id m old.end).end; output = new.output; room = room_left m.qos old.room }
+  pub answered : answer ≡ answered_identifier message.qos id
+  pub first : has_identifier message.qos ≡ true → IsFirstFree old.end.last old.end.book id
+  pub out : PutsOut (publishes id message old.end).out old.output new.output
+  pub state : new ≡ record old { end = (publishes id message old.end).end; output = new.output; room = room_left message.qos old.room }
 
 -- the CONNECT of a client, with clean session or not (3.1)
 abbrev pub connect_of : ClientConfig → Bool → Connect

@@ -9,9 +9,12 @@ use Rattle.mq_end.specs.Server.{ready_refusal, server_publish_refusal, server_ge
 
 pub record ReadyLaws : Type 0 where
   -- the first of the messages is not refused
-  pub first : (limit capacity : ℕ) (m : Message) (ms : List Message) (e : End) → ready_refusal limit capacity (m ∷ ms) e ≡ None → server_publish_refusal limit capacity m e ≡ None
+  pub first : (limit capacity : ℕ) (message : Message) (messages : List Message) (end : End) → ready_refusal limit capacity (message ∷ messages) end ≡ None
+      → server_publish_refusal limit capacity message end ≡ None
   -- once it is published, with whatever identifier, the end is ready for the others
-  pub others : (limit capacity i : ℕ) (m : Message) (ms : List Message) (e : End) → ready_refusal limit capacity (m ∷ ms) e ≡ None → ready_refusal limit capacity ms (publishes i m e).end ≡ None
+  pub others : (limit capacity id : ℕ) (message : Message) (messages : List Message) (end : End) → ready_refusal limit capacity (message ∷ messages) end ≡ None
+      → ready_refusal limit capacity messages (publishes id message end).end ≡ None
   -- A packet that doesn't close the end frees identifiers or leaves them unchanged: PUBACK, PUBREC,
   -- PUBREL, PUBCOMP, or requests and messages of the client (4.3).
-  pub taken : (limit capacity : ℕ) (p : Packet) (ms : List Message) (e : End) → is_up e.state ≡ true → (server_gets p e).close ≡ None → ready_refusal limit capacity ms e ≡ None → ready_refusal limit capacity ms (server_gets p e).end ≡ None
+  pub taken : (limit capacity : ℕ) (packet : Packet) (messages : List Message) (end : End) → is_up end.state ≡ true → (server_gets packet end).close ≡ None
+      → ready_refusal limit capacity messages end ≡ None → ready_refusal limit capacity messages (server_gets packet end).end ≡ None

@@ -7,9 +7,9 @@ use Rattle.mq_end.specs.State.{EndState, PutsOut}
 use Rattle.mq_end.specs.Receiving.{Acts}
 
 -- A packet is sent with this identifier, the first free one after the one assigned last (2.3.1).
-pub record Requests (id : ℕ) (r : Reply) (old new : EndState) : Type 0 where
+pub record Requests (id : ℕ) (reply : Reply) (old new : EndState) : Type 0 where
   pub first : IsFirstFree old.end.last old.end.book id
-  pub acts : Acts r old new
+  pub acts : Acts reply old new
 
 -- A client's `tick` (3.1.2.10).
 pub record Ticks (now : ℕ) (old new : EndState) : Type 0 where

@@ -9,13 +9,13 @@ use Rattle.mq_end.specs.State.{EndState}
 -- the PUBLISH of each message that the session holds is within the bound on the remaining length
 -- (2.2.3, 3.3)
 abbrev pub FitsWithin : ℕ → Session → Type 0
-FitsWithin limit session = All (λ (e : Entry). publish_size e.message ≤ limit) session.sender.book.entries
+FitsWithin limit session = All (λ (entry : Entry). publish_size entry.message ≤ limit) session.sender.book.entries
 
 -- the session of an end as it is saved: nothing is claimed, and no room is reserved
 abbrev pub kept_session : EndState → Session
-kept_session s = record {
-  sender = record { book = no_claims s.end.book; capacity = s.capacity; last = s.end.last; room = 0 };
-  receiver = s.end.received;
+kept_session link = record {
+  sender = record { book = no_claims link.end.book; capacity = link.capacity; last = link.end.last; room = 0 };
+  receiver = link.end.received;
 }
 
 -- a session was saved for another client than this (3.1.3.1)

@@ -10,8 +10,9 @@ use Rattle.mq_packet.specs.Encoding.{fields}
 use Rattle.mq_end.specs.Sizes.{publish_size, subscribe_size, unsubscribe_size, suback_size, unsuback_size}
 
 pub record SizeLaws : Type 0 where
-  pub publish : (m : Message) (d : Option Delivery) → fits_delivery m.qos d ≡ true → length (fields (packets.Publish (record { message = m; delivery = d }))) ≡ publish_size m
-  pub subscribe : (i : ℕ) (requests : List Request) → length (fields (packets.Subscribe i requests)) ≡ subscribe_size requests
-  pub unsubscribe : (i : ℕ) (filters : List (List ℕ)) → length (fields (packets.Unsubscribe i filters)) ≡ unsubscribe_size filters
-  pub suback : (i : ℕ) (codes : List SubAckCode) → length (fields (packets.SubAck i codes)) ≡ suback_size codes
-  pub unsuback : (i : ℕ) → length (fields (packets.UnsubAck i)) ≡ unsuback_size
+  pub publish : (message : Message) (delivery : Option Delivery) → fits_delivery message.qos delivery ≡ true
+      → length (fields (packets.Publish (record { message = message; delivery = delivery }))) ≡ publish_size message
+  pub subscribe : (id : ℕ) (requests : List Request) → length (fields (packets.Subscribe id requests)) ≡ subscribe_size requests
+  pub unsubscribe : (id : ℕ) (filters : List (List ℕ)) → length (fields (packets.Unsubscribe id filters)) ≡ unsubscribe_size filters
+  pub suback : (id : ℕ) (codes : List SubAckCode) → length (fields (packets.SubAck id codes)) ≡ suback_size codes
+  pub unsuback : (id : ℕ) → length (fields (packets.UnsubAck id)) ≡ unsuback_size

@@ -14,12 +14,12 @@ identifier_size Q2 = 2
 
 -- PUBLISH (3.3.2, 3.3.3): topic name, identifier, payload
 abbrev pub publish_size : Message → ℕ
-publish_size m = (2 + length m.topic) + (identifier_size m.qos + length m.payload)
+publish_size message = (2 + length message.topic) + (identifier_size message.qos + length message.payload)
 
 -- for each request of SUBSCRIBE its filter and a byte (3.8.3)
 abbrev pub requests_size : List Request → ℕ
 requests_size [] = 0
-requests_size (r ∷ rs) = (2 + length r.filter) + (1 + requests_size rs)
+requests_size (request ∷ rest) = (2 + length request.filter) + (1 + requests_size rest)
 
 -- SUBSCRIBE (3.8.2, 3.8.3): identifier, requests
 abbrev pub subscribe_size : List Request → ℕ
@@ -28,7 +28,7 @@ subscribe_size requests = 2 + requests_size requests
 -- the filters of UNSUBSCRIBE (3.10.3)
 abbrev pub filters_size : List (List ℕ) → ℕ
 filters_size [] = 0
-filters_size (f ∷ fs) = (2 + length f) + filters_size fs
+filters_size (filter ∷ rest) = (2 + length filter) + filters_size rest
 
 -- UNSUBSCRIBE (3.10.2, 3.10.3): identifier, filters
 abbrev pub unsubscribe_size : List (List ℕ) → ℕ

@@ -6,8 +6,8 @@ pub record Gathering (T : Type 0) : Type 0 where
   pub items : List T
   pub room : ℕ
 
--- The number of items that can be added, if one is stored alone or `n` in a vector of this
+-- The number of items that can be added, if one is stored alone or `count` in a vector of this
 -- capacity.
 abbrev pub room_of : Bool → ℕ → ℕ → ℕ
-room_of true n capacity = 0
-room_of false n capacity = if n == 0 then 1 else capacity - n
+room_of true count capacity = 0
+room_of false count capacity = if count == 0 then 1 else capacity - count

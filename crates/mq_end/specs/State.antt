@@ -39,20 +39,20 @@ no_room = record { messages = 0; bytes = 0 }
 
 -- No byte may be pending without allocation, since the queue was exchanged.
 abbrev pub no_bytes : Room → Room
-no_bytes r = record r { bytes = 0 }
+no_bytes room = record room { bytes = 0 }
 
 -- Written bytes give up their room.
 abbrev pub bytes_less : ℕ → Room → Room
-bytes_less count r = record r { bytes = r.bytes - count }
+bytes_less count room = record room { bytes = room.bytes - count }
 
 -- The encodings of packets, one after another (chapter 3).
 abbrev pub EncodesAll : List Packet → List ℕ → Type 0
-EncodesAll [] b = b ≡ []
-EncodesAll (p ∷ ps) b = (first : List ℕ) × (rest : List ℕ) × Encodes p first × EncodesAll ps rest × (b ≡ first ++ rest)
+EncodesAll [] bytes = bytes ≡ []
+EncodesAll (packet ∷ packets) bytes = (first : List ℕ) × (rest : List ℕ) × Encodes packet first × EncodesAll packets rest × (bytes ≡ first ++ rest)
 
 -- Packets are sent: the pending output grows by their encodings.
 abbrev pub PutsOut : List Packet → List ℕ → List ℕ → Type 0
-PutsOut ps old new = (b : List ℕ) × EncodesAll ps b × (new ≡ old ++ b)
+PutsOut packets old new = (bytes : List ℕ) × EncodesAll packets bytes × (new ≡ old ++ bytes)
 
 -- ---- bytes that are not a packet
 
@@ -63,9 +63,9 @@ is_level kind = false
 
 -- A malformed packet arrives at the client: it closes (4.8).
 abbrev pub client_faulted : DecodeFault → End → Reply
-client_faulted fault e = closes (reasons.Fault fault) e
+client_faulted fault end = closes (reasons.Fault fault) end
 
 -- A malformed packet arrives at the server: it closes (4.8). A first CONNECT of another protocol
 -- level is answered (3.1.2.2).
 abbrev pub server_faulted : DecodeFault → End → Reply
-server_faulted fault e = if not (is_up e.state) && is_level fault.kind then level_refused e else closes (reasons.Fault fault) e
+server_faulted fault end = if not (is_up end.state) && is_level fault.kind then level_refused end else closes (reasons.Fault fault) end

@@ -60,7 +60,7 @@ impl Buffer {
         self.bytes.len() - self.gone
     }
 
-    /// Reserves room for `more` bytes behind the pending ones. On `Err` nothing changes.
+    /// Reserves room for `more` bytes behind the pending ones.
     pub(crate) fn reserve(&mut self, more: usize) -> Result<(), AllocError>
         ensures ok { OnOk result (length self.old.bytes + more ≤ self.new.room) }
         ensures more { self.old.room ≤ self.new.room }
@@ -73,7 +73,7 @@ impl Buffer {
         Ok(())
     }
 
-    /// Appends bytes. On `Err` nothing changes.
+    /// Appends bytes.
     pub(crate) fn append(&mut self, bytes: &[u8]) -> Result<(), AllocError>
         ensures ok { OnOk result (self.new ≡ record self.old { bytes = self.old.bytes ++ bytes.now }) }
         ensures within { length self.old.bytes + length bytes.now ≤ self.old.room → IsOk result }
@@ -82,8 +82,8 @@ impl Buffer {
         self.bytes.extend_from_slice(bytes)
     }
 
-    /// Appends the encoding of a packet (chapter 3). On `Err` nothing changes: the packet is too
-    /// large, or an allocation failed, which can't happen within the room.
+    /// Appends the encoding of a packet (chapter 3). Fails if the packet is too large or an
+    /// allocation fails, which can't happen within the room.
     pub(crate) fn append_packet(&mut self, packet: &Packet) -> Result<(), AllocError>
         ensures ok { OnOk result
             ((b : List ℕ) × Encodes packet.now b × (self.new ≡ record self.old { bytes = self.old.bytes ++ b })) }
@@ -99,8 +99,8 @@ impl Buffer {
     }
 
     /// Appends the encoding of a PUBLISH of a borrowed message (3.3). `delivery` must be given
-    /// exactly for QoS 1 and 2. On `Err` nothing changes: the packet is too large, or an allocation
-    /// failed, which can't happen within the room.
+    /// exactly for QoS 1 and 2. Fails if the packet is too large or an allocation fails, which
+    /// can't happen within the room.
     pub(crate) fn append_publish(
         &mut self,
         message: &Message,

@@ -1,7 +1,7 @@
 //! The client end.
 
 ghost use Rattle.std.specs.Prelude.{◌≡◌, ◌<◌, ◌≤◌, ◌↔◌, ◌⊎◌, ◌∷◌, ◌++◌, IsErrOf, ℕ, [], true, false, length, drop, IfOk, IfErr, IfSome, IfNone, IsSome, OnOk, OnErr, Err, None, Some};
-ghost use Rattle.mq_end.specs.Prelude.{packet_of, blank_end, is_live, over, resumed, publish_refusal, connects, subscribes, subscribe_refusal, unsubscribes, unsubscribe_refusal, leaves, leave_refusal, PutsOut, bytes_less, no_bytes, no_room, Acts, ClientReceives, ClientTakes, Accepts, connect_of, pings, IsDeadline, Requests, Ticks, KeepsWindow, FitsWithin, NamesAnother, kept_session, AreWithin, IsSession, saved_form_two};
+ghost use Rattle.mq_end.specs.Prelude.{packet_of, blank_end, is_live, is_up, over, resumed, publish_refusal, connects, subscribes, subscribe_refusal, unsubscribes, unsubscribe_refusal, leaves, leave_refusal, client_gets, CanSend, is_plain, Shows, PutsOut, bytes_less, no_bytes, no_room, Acts, ClientReceives, ClientTakes, Accepts, connect_of, pings, IsDeadline, Requests, Ticks, KeepsWindow, FitsWithin, NamesAnother, kept_session, AreWithin, IsSession, saved_form_two};
 ghost use Rattle.mq_packet.specs.declared.packet.Packet.TheVariants as packets;
 
 use crate::config::ClientConfig;
@@ -159,8 +159,7 @@ impl ClientEnd {
     }
 
     /// Begins a connection at time `now`: sends CONNECT (3.1). Drops an open connection, and
-    /// discards pending output of an earlier one. `clean` discards the session (3.1.2.4). On `Err`
-    /// nothing changes.
+    /// discards pending output of an earlier one. `clean` discards the session (3.1.2.4).
     pub fn connect(&mut self, now: u64, clean: bool) -> Result<(), AllocError>
         ensures end { OnOk result (self.new.link.end ≡ (connects (connect_of self.old.config clean) self.old.link.end).end) }
         ensures output { OnOk result (PutsOut (packets.Connect (connect_of self.old.config clean) ∷ []) [] self.new.link.output) }
@@ -201,13 +200,17 @@ impl ClientEnd {
 
     /// Processes a complete packet that is borrowed from a buffer, received at time `now`;
     /// `receive` decodes packets and does this with each. Ignores it without a connection. Closes
-    /// the end if an allocation fails.
+    /// the end if an allocation fails. While connected, that happens only for a packet that is
+    /// answered, or with text, a payload or a list.
     pub fn on_view(&mut self, now: u64, view: &PacketView<'_>) -> Progress
         ensures open { is_live self.old.link.end.state ≡ true → ClientTakes now (packet_of view.now) self.old.link self.new.link
             result.happenings result.acknowledged result.closed }
         ensures closed { is_live self.old.link.end.state ≡ false → self.new ≡ self.old }
         ensures nothing { is_live self.old.link.end.state ≡ false
             → (result.happenings ≡ []) × (result.acknowledged ≡ []) × (result.closed ≡ None) }
+        ensures within { is_up self.old.link.end.state ≡ true → is_plain (packet_of view.now) ≡ true
+            → CanSend (client_gets (packet_of view.now) self.old.link.end).out self.old.link
+            → Shows (client_gets (packet_of view.now) self.old.link.end) self.old.link self.new.link result.happenings result.acknowledged result.closed }
         ensures config { self.new.config ≡ self.old.config }
     {
         self.link.on_view(Role::Client, now, view)
@@ -215,7 +218,7 @@ impl ClientEnd {
 
     /// Publishes a message. Returns its packet identifier if it has QoS 1 or 2 (2.3.1). Without a
     /// connection, a QoS 1 or 2 message is stored, and sent once the client has connected. Errors:
-    /// `NotConnected` for QoS 0, `TooLarge`, `Full`, `Memory`, in this order; then nothing changes.
+    /// `NotConnected` for QoS 0, `TooLarge`, `Full`, `Memory`, in this order.
     pub fn publish(&mut self, message: Message) -> Result<Option<PacketId>, PublishRefusal>
         ensures refused { IfSome (publish_refusal self.old.link.limit.most self.old.link.capacity message self.old.link.end)
             (λ why. result ≡ Err why) }
@@ -229,8 +232,7 @@ impl ClientEnd {
     }
 
     /// Subscribes. Returns the packet identifier of the SUBSCRIBE, which is in use until its SUBACK
-    /// arrives (3.8). Errors: `NotConnected`, `TooLarge`, `Full`, `Memory`, in this order; then
-    /// nothing changes.
+    /// arrives (3.8). Errors: `NotConnected`, `TooLarge`, `Full`, `Memory`, in this order.
     pub fn subscribe(&mut self, requests: NonEmpty<Request>) -> Result<PacketId, PublishRefusal>
         ensures refused { IfSome (subscribe_refusal self.old.link.limit.most self.old.link.capacity requests self.old.link.end)
             (λ why. result ≡ Err why) }
@@ -245,7 +247,7 @@ impl ClientEnd {
 
     /// Unsubscribes. Returns the packet identifier of the UNSUBSCRIBE, which is in use until its
     /// UNSUBACK arrives (3.10). Errors: `NotConnected`, `TooLarge`, `Full`, `Memory`, in this
-    /// order; then nothing changes.
+    /// order.
     pub fn unsubscribe(
         &mut self,
         filters: NonEmpty<TopicFilter>,
@@ -263,7 +265,7 @@ impl ClientEnd {
 
     /// Sends DISCONNECT and closes (3.14). The session stays, without the identifiers of SUBSCRIBE
     /// and UNSUBSCRIBE; after clean session 1 it is discarded (3.1.2.4). Errors: `NotConnected`,
-    /// `Memory`; then nothing changes.
+    /// `Memory`.
     pub fn disconnect(&mut self) -> Result<(), PublishRefusal>
         ensures refused { IfSome (leave_refusal self.old.link.end) (λ why. result ≡ Err why) }
         ensures memory { IfNone (leave_refusal self.old.link.end) (IfErr result (λ why. why ≡ PublishRefusal.Memory)) }
@@ -276,8 +278,7 @@ impl ClientEnd {
 
     /// Call this regularly with the current time. Sends a PINGREQ if the keep-alive interval has
     /// elapsed since CONNECT or the last PINGREQ (3.1.2.10, 3.12). Never closes, so it returns
-    /// `None`. On `Err` nothing changes. Whether a [`Pong`](Happening::Pong) follows in time is for
-    /// the caller to watch.
+    /// `None`. Whether a [`Pong`](Happening::Pong) follows in time is for the caller to watch.
     pub fn tick(&mut self, now: u64) -> Result<Option<CloseReason>, AllocError>
         ensures ok { OnOk result (Ticks now self.old.link self.new.link) }
         ensures memory { OnErr result (pings self.old.link.last_activity now self.old.link.end ≡ true) }
@@ -347,7 +348,7 @@ impl ClientEnd {
         self.link.swap_output(other);
     }
 
-    /// How far the connection is.
+    /// The state of the connection.
     pub fn state(&self) -> State
         ensures { result ≡ self.now.link.end.state }
     {

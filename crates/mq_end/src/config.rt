@@ -16,9 +16,9 @@ pub struct ClientConfig {
     pub will: Option<Will>,
     /// User name and password (3.1.3.4, 3.1.3.5).
     pub login: Option<Login>,
-    /// The bound on the remaining length of packets, of those that come and those that go (2.2.3).
+    /// The bound on the remaining length of packets, received or sent (2.2.3).
     pub limits: Limits,
-    /// The most packet identifiers in use, at least 1 (2.3.1).
+    /// The maximum number of packet identifiers in use, at least 1 (2.3.1).
     pub capacity: u16,
     /// The receive window, at least 1: the maximum number of QoS 2 messages that were delivered and
     /// are not released. A new message beyond it closes the connection (4.3.3, 4.8). `None` sets no
@@ -29,9 +29,9 @@ pub struct ClientConfig {
 /// Configuration of a server end.
 #[derive(Clone, Copy, Debug, PartialEq, Eq)]
 pub struct ServerConfig {
-    /// The bound on the remaining length of packets, of those that come and those that go (2.2.3).
+    /// The bound on the remaining length of packets, received or sent (2.2.3).
     pub limits: Limits,
-    /// The most packet identifiers in use, at least 1 (2.3.1).
+    /// The maximum number of packet identifiers in use, at least 1 (2.3.1).
     pub capacity: u16,
     /// The receive window, at least 1: the maximum number of QoS 2 messages that were delivered and
     /// are not released. A new message beyond it closes the connection (4.3.3, 4.8). `None` sets no

@@ -176,7 +176,7 @@ impl Endpoint {
         self.output.forget_room();
     }
 
-    /// Sends a packet. On `Err` nothing changes. Can't fail within the room.
+    /// Sends a packet. Can't fail within the room.
     pub(crate) fn write(&mut self, packet: &Packet) -> Result<(), AllocError>
         ensures ok { OnOk result ((b : List ℕ) × Encodes packet.now b × (self.new ≡ record self.old { output = self.old.output ++ b })) }
         ensures within { length (fields packet.now) < 2 ^ 28

@@ -104,8 +104,7 @@ impl Endpoint {
         Ok(self.close(CloseReason::Refused(code)))
     }
 
-    /// Sends the response to an accepted CONNECT: CONNACK, and all retransmissions (3.2, 4.4). On
-    /// `Err` nothing changes.
+    /// Sends the response to an accepted CONNECT: CONNACK, and all retransmissions (3.2, 4.4).
     fn write_accepted(&mut self, clean: bool, session_present: bool) -> Result<(), AllocError>
         ensures ok { OnOk result (PutsOut (packets.ConnAck (connacks.Accepted session_present)
             ∷ resent (renewed clean self.old.end).book) self.old.output self.new.output) }

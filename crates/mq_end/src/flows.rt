@@ -1,7 +1,7 @@
-//! The packets of a message's flow, which both ends take in alike (4.3).
+//! The packets of a message's flow, which both ends process alike (4.3).
 
 ghost use Rattle.std.specs.Prelude.{◌≡◌, true, false, IsOk, IfOk, OnOk, OnErr, Some};
-ghost use Rattle.mq_end.specs.Prelude.{Q1, Q2, fits_delivery, on_pubrel, same_qos, flow_gets, publish_gets, stores, FitsRoom, is_exactly_once, Acts, Gives, outcome_of};
+ghost use Rattle.mq_end.specs.Prelude.{Q1, Q2, fits_delivery, on_pubrel, same_qos, flow_gets, publish_gets, stores, CanSend, is_exactly_once, Acts, Gives, outcome_of};
 ghost use Rattle.mq_packet.specs.declared.packet.Packet.TheVariants as packets;
 
 use crate::endpoint::Endpoint;
@@ -24,7 +24,7 @@ impl Endpoint {
     /// Processes a QoS 1 message: deliver it and send PUBACK (4.3.2).
     fn take_at_least_once(&mut self, delivery: Delivery) -> Result<PublishOutcome, AllocError>
         ensures ok { IfOk result (λ handing. (m : Message) → Gives (publish_gets Q1 (Some delivery) m self.old.end) (outcome_of handing m) self.old self.new) }
-        ensures within { (m : Message) → FitsRoom (publish_gets Q1 (Some delivery) m self.old.end).out self.old → IsOk result }
+        ensures within { (m : Message) → CanSend (publish_gets Q1 (Some delivery) m self.old.end).out self.old → IsOk result }
         ensures err { OnErr result (self.new ≡ self.old) }
     {
         self.write(&Packet::PubAck(delivery.id))?;
@@ -69,7 +69,7 @@ impl Endpoint {
     ) -> Result<PublishOutcome, AllocError>
         requires fits { fits_delivery qos delivery ≡ true }
         ensures ok { IfOk result (λ handing. (m : Message) → Gives (publish_gets qos delivery m self.old.end) (outcome_of handing m) self.old self.new) }
-        ensures within { same_qos Q2 qos ≡ false → (m : Message) → FitsRoom (publish_gets qos delivery m self.old.end).out self.old → IsOk result }
+        ensures within { same_qos Q2 qos ≡ false → (m : Message) → CanSend (publish_gets qos delivery m self.old.end).out self.old → IsOk result }
         ensures err { OnErr result (self.new ≡ self.old) }
     {
         match (qos, delivery) {
@@ -89,7 +89,7 @@ impl Endpoint {
         requires fits { fits_delivery message.qos delivery ≡ true }
         ensures ok { IfOk result (λ outcome. Gives (publish_gets message.qos delivery message self.old.end) outcome self.old self.new) }
         ensures within { is_exactly_once (packets.Publish (record { message = message; delivery = delivery })) ≡ false
-            → FitsRoom (publish_gets message.qos delivery message self.old.end).out self.old → IsOk result }
+            → CanSend (publish_gets message.qos delivery message self.old.end).out self.old → IsOk result }
         ensures err { OnErr result (self.new ≡ self.old) }
     {
         let handing = self.take_delivery(message.qos, delivery)?;
@@ -101,7 +101,7 @@ impl Endpoint {
     fn take_publish(&mut self, publish: Publish) -> Result<PacketOutcome, AllocError>
         ensures ok { IfOk result (λ outcome. Gives (flow_gets (packets.Publish publish) self.old.end) outcome self.old self.new) }
         ensures within { is_exactly_once (packets.Publish publish) ≡ false
-            → FitsRoom (flow_gets (packets.Publish publish) self.old.end).out self.old → IsOk result }
+            → CanSend (flow_gets (packets.Publish publish) self.old.end).out self.old → IsOk result }
         ensures err { OnErr result (self.new ≡ self.old) }
     {
         let delivery = publish.delivery();
@@ -121,7 +121,7 @@ impl Endpoint {
     /// Processes a PUBREC and answers with PUBREL (3.5, 4.3.3).
     pub(crate) fn take_pubrec(&mut self, id: PacketId) -> Result<(), AllocError>
         ensures ok { OnOk result (Acts (flow_gets (packets.PubRec id) self.old.end) self.old self.new) }
-        ensures within { FitsRoom (flow_gets (packets.PubRec id) self.old.end).out self.old → IsOk result }
+        ensures within { CanSend (flow_gets (packets.PubRec id) self.old.end).out self.old → IsOk result }
         ensures err { OnErr result (self.new ≡ self.old) }
     {
         if self.session.sender.awaits_pubrec(id) {
@@ -134,7 +134,7 @@ impl Endpoint {
     /// Processes a PUBREL and answers with PUBCOMP (3.6, 4.3.3).
     pub(crate) fn take_pubrel(&mut self, id: PacketId) -> Result<(), AllocError>
         ensures ok { OnOk result (Acts (flow_gets (packets.PubRel id) self.old.end) self.old self.new) }
-        ensures within { FitsRoom (flow_gets (packets.PubRel id) self.old.end).out self.old → IsOk result }
+        ensures within { CanSend (flow_gets (packets.PubRel id) self.old.end).out self.old → IsOk result }
         ensures err { OnErr result (self.new ≡ self.old) }
     {
         self.write(&Packet::PubComp(id))?;
@@ -155,7 +155,7 @@ impl Endpoint {
     #[tactic(auto, using(crate::proofs::Outcomes::quiet))]
     pub(crate) fn take_flow(&mut self, packet: Packet) -> Result<PacketOutcome, AllocError>
         ensures ok { IfOk result (λ outcome. Gives (flow_gets packet self.old.end) outcome self.old self.new) }
-        ensures within { is_exactly_once packet ≡ false → FitsRoom (flow_gets packet self.old.end).out self.old → IsOk result }
+        ensures within { is_exactly_once packet ≡ false → CanSend (flow_gets packet self.old.end).out self.old → IsOk result }
         ensures err { OnErr result (self.new ≡ self.old) }
     {
         match packet {

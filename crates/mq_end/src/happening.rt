@@ -11,7 +11,7 @@ use std::alloc::AllocError;
 pub enum Happening {
     /// The connection is established (3.2).
     Up {
-        /// A session was there before (3.2.2.2).
+        /// The server had a session (3.2.2.2).
         session_present: bool,
     },
     /// A message is delivered (4.3).
@@ -23,7 +23,7 @@ pub enum Happening {
         /// The requested subscriptions.
         requests: NonEmpty<Request>,
     },
-    /// A client gives subscriptions up (3.10).
+    /// A client unsubscribes (3.10).
     Unsubscribe {
         /// The packet identifier, which the response must have.
         id: PacketId,

@@ -3,7 +3,7 @@
 ghost use Rattle.mq_end.specs.Prelude.{SizeLaws, ReadyLaws, ClosingLaws, SoundLaws, WindowLaws, KeepAliveLaws};
 
 /// After any list of packets and calls, the identifiers in use are 1 to 65,535, each is used once,
-/// and there are at most as many as the capacity (2.3.1).
+/// and at most the capacity are in use (2.3.1).
 pub fn sound_laws()
     ensures { SoundLaws }
 {}
@@ -13,8 +13,8 @@ pub fn keep_alive_laws()
     ensures { KeepAliveLaws }
 {}
 
-/// Whatever closes a connection, the session is as it was just before, its claimed identifiers
-/// free; after clean session 1 it ends (3.1.2.4).
+/// When a connection closes, the session is unchanged, but its claimed identifiers are free. After
+/// clean session 1 the session ends (3.1.2.4).
 pub fn closing_laws()
     ensures { ClosingLaws }
 {}
@@ -24,8 +24,8 @@ pub fn size_laws()
     ensures { SizeLaws }
 {}
 
-/// After any packet an end has the same receive window, and stores at most as many identifiers as
-/// the window allows or as it stored before (4.3.3).
+/// After any list of packets and calls an end has the same receive window, and stores at most as
+/// many identifiers as the window allows or as it stored before (4.3.3).
 pub fn window_laws()
     ensures { WindowLaws }
 {}

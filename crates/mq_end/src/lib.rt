@@ -2,7 +2,7 @@
 //! [`ServerEnd`]. A call that may allocate says so in its return type; other calls never allocate.
 //! On `Err` the receiver is unchanged unless stated otherwise.
 //!
-//! The definitions are in `specs/`; this crate has the words that they share with the code.
+//! The definitions are in `specs/`; this crate has the types that they share with the code.
 #![tactic(auto)]
 
 mod block;

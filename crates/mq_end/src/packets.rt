@@ -1,7 +1,7 @@
 //! Packets, one after another (4.6).
 
 ghost use Rattle.std.specs.Prelude.{◌≡◌, ◌<◌, ◌⊎◌, true, false, IsOk, IfOk, OnOk, OnErr};
-ghost use Rattle.mq_end.specs.Prelude.{Reply, closes, is_up, client_gets, client_up_gets, server_gets, server_up_gets, AreEncodable, FitsRoom, is_exactly_once, Gives, Makes, Stays, gets_as};
+ghost use Rattle.mq_end.specs.Prelude.{Reply, closes, is_up, client_gets, client_up_gets, server_gets, server_up_gets, AreEncodable, FitsRoom, CanSend, is_exactly_once, Gives, Makes, Stays, gets_as};
 ghost use Rattle.mq_end.specs.declared.reason.CloseReason.TheVariants as reasons;
 ghost use Rattle.mq_end.specs.declared.state.State.TheVariants as states;
 
@@ -42,6 +42,7 @@ impl Endpoint {
     /// Processes a packet at a connected client.
     fn take_up_client(&mut self, packet: Packet) -> Result<PacketOutcome, AllocError>
         ensures ok { IfOk result (λ outcome. Gives (client_up_gets packet self.old.end) outcome self.old self.new) }
+        ensures within { is_exactly_once packet ≡ false → CanSend (client_up_gets packet self.old.end).out self.old → IsOk result }
         ensures err { OnErr result (self.new ≡ self.old) }
     {
         match packet {
@@ -55,7 +56,7 @@ impl Endpoint {
     /// Processes a packet at a connected server.
     fn take_up_server(&mut self, packet: Packet) -> Result<PacketOutcome, AllocError>
         ensures ok { IfOk result (λ outcome. Gives (server_up_gets packet self.old.end) outcome self.old self.new) }
-        ensures within { is_exactly_once packet ≡ false → FitsRoom (server_up_gets packet self.old.end).out self.old → IsOk result }
+        ensures within { is_exactly_once packet ≡ false → CanSend (server_up_gets packet self.old.end).out self.old → IsOk result }
         ensures err { OnErr result (self.new ≡ self.old) }
     {
         match packet {
@@ -77,6 +78,8 @@ impl Endpoint {
     /// Processes a packet at a client.
     fn take_client(&mut self, packet: Packet) -> Result<PacketOutcome, AllocError>
         ensures ok { IfOk result (λ outcome. Gives (client_gets packet self.old.end) outcome self.old self.new) }
+        ensures up { is_up self.old.end.state ≡ true → is_exactly_once packet ≡ false
+            → CanSend (client_gets packet self.old.end).out self.old → IsOk result }
         ensures err { OnErr result (self.new ≡ self.old) }
     {
         match self.state {
@@ -92,7 +95,7 @@ impl Endpoint {
     pub(crate) fn take_server(&mut self, packet: Packet) -> Result<PacketOutcome, AllocError>
         ensures ok { IfOk result (λ outcome. Gives (server_gets packet self.old.end) outcome self.old self.new) }
         ensures up { is_up self.old.end.state ≡ true → is_exactly_once packet ≡ false
-            → FitsRoom (server_gets packet self.old.end).out self.old → IsOk result }
+            → CanSend (server_gets packet self.old.end).out self.old → IsOk result }
         ensures rises { self.old.end.state ≡ states.Connecting → AreEncodable (server_gets packet self.old.end).out
             → FitsRoom (server_gets packet self.old.end).out self.old → IsOk result }
         ensures err { OnErr result (self.new ≡ self.old) }
@@ -107,8 +110,8 @@ impl Endpoint {
     /// Processes a packet. On `Err` nothing changes.
     fn take_one(&mut self, role: Role, packet: Packet) -> Result<PacketOutcome, AllocError>
         ensures ok { IfOk result (λ outcome. Gives (gets_as role packet self.old.end) outcome self.old self.new) }
-        ensures within { role ≡ Role.Server → is_up self.old.end.state ≡ true → is_exactly_once packet ≡ false
-            → FitsRoom (server_gets packet self.old.end).out self.old → IsOk result }
+        ensures within { is_up self.old.end.state ≡ true → is_exactly_once packet ≡ false
+            → CanSend (gets_as role packet self.old.end).out self.old → IsOk result }
         ensures err { OnErr result (self.new ≡ self.old) }
     {
         match role {
@@ -128,8 +131,8 @@ impl Endpoint {
     ) -> Result<Option<CloseReason>, AllocError>
         ensures closed { IfOk result (λ closed. closed ≡ (gets_as role packet self.old.end).close) }
         ensures ok { OnOk result (Makes (gets_as role packet self.old.end) self.old self.new told.old told.new) }
-        ensures within { role ≡ Role.Server → is_up self.old.end.state ≡ true → is_exactly_once packet ≡ false
-            → FitsRoom (server_gets packet self.old.end).out self.old
+        ensures within { is_up self.old.end.state ≡ true → is_exactly_once packet ≡ false
+            → CanSend (gets_as role packet self.old.end).out self.old
             → 0 < told.old.happenings.room → 0 < told.old.acknowledged.room → IsOk result }
         ensures err { OnErr result (Stays self.old self.new told.old told.new) }
     {
@@ -148,11 +151,11 @@ impl Endpoint {
     ) -> Option<CloseReason>
         ensures made { (r : Reply) × ((r ≡ gets_as role packet self.old.end) ⊎ (r ≡ closes reasons.Memory self.old.end))
             × (result ≡ r.close) × Makes r self.old self.new told.old told.new }
-        ensures within { role ≡ Role.Server → is_up self.old.end.state ≡ true → is_exactly_once packet ≡ false
-            → FitsRoom (server_gets packet self.old.end).out self.old
+        ensures within { is_up self.old.end.state ≡ true → is_exactly_once packet ≡ false
+            → CanSend (gets_as role packet self.old.end).out self.old
             → 0 < told.old.happenings.room → 0 < told.old.acknowledged.room
-            → (result ≡ (server_gets packet self.old.end).close)
-            × Makes (server_gets packet self.old.end) self.old self.new told.old told.new }
+            → (result ≡ (gets_as role packet self.old.end).close)
+            × Makes (gets_as role packet self.old.end) self.old self.new told.old told.new }
     {
         match self.take(role, packet, told) {
             Ok(closed) => closed,

@@ -55,9 +55,9 @@ impl Endpoint {
         let id = self.session.sender.next_id().unwrap();
         let is_up = self.state == State::Connected;
         let before = self.output.len();
-        let delivery = Delivery { id, dup: false };
-        let (message, block) = message.into_parts(Some(delivery));
+        let (message, block) = message.into_parts(Some(Delivery { id, dup: false }));
         if is_up {
+            let delivery = Delivery { id, dup: false };
             self.output.append_encoded(&message, Some(delivery), block)?;
         } else {
             drop(block);

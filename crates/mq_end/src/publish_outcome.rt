@@ -23,7 +23,7 @@ pub enum PublishOutcome {
 impl PublishOutcome {
     /// The reason if the end closed.
     pub fn closed(self) -> Option<CloseReason>
-        ensures { (m : Message) → result ≡ (outcome_of self m).closed }
+        ensures { (message : Message) → result ≡ (outcome_of self message).closed }
     {
         match self {
             PublishOutcome::Closed(reason) => Some(reason),

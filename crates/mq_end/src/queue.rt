@@ -55,7 +55,7 @@ impl ByteQueue {
         self.len() == 0
     }
 
-    /// Appends bytes. On `Err` nothing changes.
+    /// Appends bytes.
     pub fn append(&mut self, bytes: &[u8]) -> Result<(), AllocError>
         ensures ok { OnOk result (self.new ≡ self.old ++ bytes.now) }
         ensures err { OnErr result (self.new ≡ self.old) }
@@ -63,19 +63,18 @@ impl ByteQueue {
         self.output.append(bytes)
     }
 
-    /// Appends the encoding of a packet (chapter 3). On `Err` nothing changes: an allocation
-    /// failed, or the packet is too large.
+    /// Appends the encoding of a packet (chapter 3). Fails if an allocation fails or the packet is
+    /// too large.
     pub fn append_packet(&mut self, packet: &Packet) -> Result<(), AllocError>
         ensures ok { OnOk result
-            ((b : List ℕ) × Encodes packet.now b × (self.new ≡ self.old ++ b)) }
+            ((bytes : List ℕ) × Encodes packet.now bytes × (self.new ≡ self.old ++ bytes)) }
         ensures err { OnErr result (self.new ≡ self.old) }
     {
         self.output.append_packet(packet)
     }
 
     /// Appends the encoding of a PUBLISH of a borrowed message (3.3). `delivery` must be given
-    /// exactly for QoS 1 and 2. On `Err` nothing changes: an allocation failed, or the packet is
-    /// too large.
+    /// exactly for QoS 1 and 2. Fails if an allocation fails or the packet is too large.
     pub fn append_publish(
         &mut self,
         message: &Message,
@@ -83,8 +82,8 @@ impl ByteQueue {
     ) -> Result<(), AllocError>
         requires { fits_delivery message.now.qos delivery ≡ true }
         ensures ok { OnOk result
-            ((b : List ℕ) × Encodes (Packet.Publish (record { message = message.now; delivery = delivery })) b
-            × (self.new ≡ self.old ++ b)) }
+            ((bytes : List ℕ) × Encodes (Packet.Publish (record { message = message.now; delivery = delivery })) bytes
+            × (self.new ≡ self.old ++ bytes)) }
         ensures err { OnErr result (self.new ≡ self.old) }
     {
         self.output.append_publish(message, delivery)
@@ -98,8 +97,8 @@ impl ByteQueue {
         self.output.take(count);
     }
 
-    /// Removes and returns all bytes in one shared block, without copying them. On `Err` the bytes
-    /// stay. Does not allocate if there are none.
+    /// Removes and returns all bytes in one shared block, without copying them. Does not allocate
+    /// if there are none.
     pub fn take_bytes(&mut self) -> Result<Bytes, AllocError>
         ensures bytes { IfOk result (λ b. b ≡ self.old) }
         ensures taken { OnOk result (self.new ≡ []) }

@@ -11,10 +11,10 @@ use thiserror::Error;
 #[derive(Clone, Copy, Debug, PartialEq, Eq, Error)]
 pub enum CloseReason {
     /// Bytes that are not a packet (4.8).
-    #[error("bytes came that are no packet")]
+    #[error("the bytes are not a packet")]
     Fault(DecodeFault),
-    /// A packet that may not come there (4.8).
-    #[error("a packet came that may not come there")]
+    /// An unexpected packet (4.8).
+    #[error("unexpected packet")]
     Unexpected,
     /// CONNECT was refused (3.2.2.3).
     #[error("the connection was refused")]
@@ -22,8 +22,8 @@ pub enum CloseReason {
     /// The server has no session although the client's is established (3.2.2.2).
     #[error("the server lost the session")]
     SessionLost,
-    /// Nothing came for one and a half times the keep-alive (3.1.2.10).
-    #[error("nothing came for one and a half times the keep-alive")]
+    /// No packet arrived for one and a half keep-alives (3.1.2.10).
+    #[error("no packet arrived for one and a half keep-alives")]
     KeepAlive,
     /// Memory ran out.
     #[error("out of memory")]
@@ -31,8 +31,8 @@ pub enum CloseReason {
     /// DISCONNECT was sent or read (3.14).
     #[error("the client disconnected")]
     Left,
-    /// A new message of quality of service 2 that does not fit the receiving window (4.8).
-    #[error("a new message does not fit the receiving window")]
+    /// A new QoS 2 message exceeds the receive window (4.8).
+    #[error("a new message exceeds the receive window")]
     Window,
 }
 

@@ -1,7 +1,7 @@
 //! Received bytes (4.2, 4.8).
 
 ghost use Rattle.std.specs.Prelude.{◌≡◌, ◌≤◌, ◌++◌, [], length, take, true, false, IsOk, IfOk, IfErr, IfSome, IfNone, OnErr, Ok, Err, None, Some};
-ghost use Rattle.mq_end.specs.Prelude.{Q2, fits_delivery, IsFront, Pending, ReadsWithin, packet_of, same_qos, Reply, is_live, is_up, KeepsWindow, AreEncodable, FitsRoom, is_exactly_once, server_gets, Acts, HeardAs, Hears, IsBreak, ReceivesAs, Shows, TakesAs, TakesNext, TakesPacket, heard_as, is_answered, no_outcome, outcome_of};
+ghost use Rattle.mq_end.specs.Prelude.{Q2, fits_delivery, IsFront, Pending, ReadsWithin, packet_of, same_qos, Reply, is_live, is_up, KeepsWindow, AreEncodable, FitsRoom, CanSend, is_exactly_once, is_plain, gets_as, server_gets, Acts, HeardAs, Hears, IsBreak, ReceivesAs, Shows, TakesAs, TakesNext, TakesPacket, heard_as, is_answered, no_outcome, outcome_of};
 ghost use Rattle.mq_end.specs.declared.state.State.TheVariants as states;
 
 use crate::endpoint::Endpoint;
@@ -166,7 +166,7 @@ impl Endpoint {
         ensures closed { is_live self.old.end.state ≡ false → self.new ≡ self.old }
         ensures nothing { is_live self.old.end.state ≡ false → result ≡ Ok no_outcome }
         ensures up { is_up self.old.end.state ≡ true → is_exactly_once packet ≡ false
-            → FitsRoom (server_gets packet self.old.end).out self.old → IsOk result }
+            → CanSend (server_gets packet self.old.end).out self.old → IsOk result }
         ensures rises { self.old.end.state ≡ states.Connecting → AreEncodable (server_gets packet self.old.end).out
             → FitsRoom (server_gets packet self.old.end).out self.old → IsOk result }
         ensures err { OnErr result (self.new ≡ self.old) }
@@ -194,7 +194,7 @@ impl Endpoint {
         ensures closed { is_live self.old.end.state ≡ false → self.new ≡ self.old }
         ensures nothing { is_live self.old.end.state ≡ false → result ≡ Ok PublishOutcome.Nothing }
         ensures up { is_up self.old.end.state ≡ true → same_qos Q2 message.now.qos ≡ false
-            → FitsRoom (server_gets (Packet.Publish (record { message = message.now; delivery = delivery })) self.old.end).out self.old → IsOk result }
+            → CanSend (server_gets (Packet.Publish (record { message = message.now; delivery = delivery })) self.old.end).out self.old → IsOk result }
         ensures err { OnErr result (self.new ≡ self.old) }
     {
         match self.state {
@@ -216,9 +216,9 @@ impl Endpoint {
         ensures closed { is_live self.old.end.state ≡ false → self.new ≡ self.old }
         ensures nothing { is_live self.old.end.state ≡ false
             → (result.happenings ≡ []) × (result.acknowledged ≡ []) × (result.closed ≡ None) }
-        ensures within { role ≡ Role.Server → is_up self.old.end.state ≡ true → is_exactly_once packet ≡ false
-            → FitsRoom (server_gets packet self.old.end).out self.old
-            → Shows (server_gets packet self.old.end) self.old self.new result.happenings result.acknowledged result.closed }
+        ensures within { is_up self.old.end.state ≡ true → is_exactly_once packet ≡ false
+            → CanSend (gets_as role packet self.old.end).out self.old
+            → Shows (gets_as role packet self.old.end) self.old self.new result.happenings result.acknowledged result.closed }
     {
         let mut told = ProgressBuilder::new(self.alloc);
         if self.state == State::Disconnected {
@@ -236,6 +236,9 @@ impl Endpoint {
         ensures closed { is_live self.old.end.state ≡ false → self.new ≡ self.old }
         ensures nothing { is_live self.old.end.state ≡ false
             → (result.happenings ≡ []) × (result.acknowledged ≡ []) × (result.closed ≡ None) }
+        ensures within { is_up self.old.end.state ≡ true → is_plain (packet_of view.now) ≡ true
+            → CanSend (gets_as role (packet_of view.now) self.old.end).out self.old
+            → Shows (gets_as role (packet_of view.now) self.old.end) self.old self.new result.happenings result.acknowledged result.closed }
     {
         let mut told = ProgressBuilder::new(self.alloc);
         if self.state == State::Disconnected {

@@ -17,7 +17,7 @@ pub enum PublishRefusal {
     /// The packet's remaining length is over the end's own limit.
     #[error("the packet is over the limit")]
     TooLarge,
-    /// As many identifiers are in use as there is room for.
+    /// The maximum number of identifiers is in use.
     #[error("no packet identifier is free")]
     Full,
     /// Memory ran out.

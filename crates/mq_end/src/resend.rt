@@ -11,8 +11,7 @@ use mq_packet::{Delivery, Packet};
 use std::alloc::AllocError;
 
 impl Endpoint {
-    /// Sends all retransmissions, encoded directly from the sender's state. On `Err` nothing
-    /// changes.
+    /// Sends all retransmissions, encoded directly from the sender's state.
     pub(crate) fn write_resent(&mut self) -> Result<(), AllocError>
         ensures ok { OnOk result (PutsOut (resent self.old.end.book) self.old.output self.new.output) }
         ensures state { self.new ≡ record self.old { output = self.new.output } }

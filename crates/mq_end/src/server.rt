@@ -1,7 +1,7 @@
 //! The server end.
 
 ghost use Rattle.std.specs.Prelude.{◌≡◌, ◌+◌, ◌<◌, ◌≤◌, ◌++◌, ◌↔◌, ℕ, List, [], ◌∷◌, true, false, length, drop, IsOk, IfOk, IfErr, IfSome, IfNone, IsSome, OnOk, OnErr, Ok, Err, None, Some};
-ghost use Rattle.mq_end.specs.Prelude.{Q2, fits_delivery, packet_of, same_qos, blank_end, is_live, is_up, over, resumed, would_hand, opens, ready_refusal, server_gets, server_publish_refusal, subacks, suback_refusal, unsubacks, unsuback_refusal, Acts, HearsAt, ServerReceives, Shows, TakesOne, TakesPacket, no_outcome, outcome_of, Accepts, CanRise, FitsRoom, HasRise, HasRoom, is_exactly_once, packets_size, whole_size, suback_size, unsuback_size, bytes_less, no_bytes, no_room, server_ticks, IsDeadline, is_overdue, KeepsWindow, FitsWithin};
+ghost use Rattle.mq_end.specs.Prelude.{Q2, fits_delivery, packet_of, same_qos, blank_end, is_live, is_up, over, resumed, would_hand, opens, ready_refusal, server_gets, server_publish_refusal, subacks, suback_refusal, unsubacks, unsuback_refusal, Acts, HearsAt, ServerReceives, Shows, TakesOne, TakesPacket, no_outcome, outcome_of, Accepts, CanRise, FitsRoom, CanSend, HasRise, HasRoom, is_exactly_once, is_plain, packets_size, whole_size, suback_size, unsuback_size, bytes_less, no_bytes, no_room, server_ticks, IsDeadline, is_overdue, KeepsWindow, FitsWithin};
 ghost use Rattle.mq_end.specs.declared.state.State.TheVariants as states;
 
 use crate::config::ServerConfig;
@@ -114,7 +114,7 @@ impl ServerEnd {
         ensures last_activity { self.new.last_activity ≡ now }
         ensures room { self.new.room ≡ self.old.room }
         ensures waits { CanRise self.new }
-        ensures connect_end { (c : Connect) (ms : List Message) (more : ℕ) → HasRise c ms more self.old → HasRise c ms more self.new }
+        ensures connect_end { (connect : Connect) (ms : List Message) (more : ℕ) → HasRise connect ms more self.old → HasRise connect ms more self.new }
     {
         self.link.open_connection(now);
     }
@@ -147,7 +147,7 @@ impl ServerEnd {
         ensures nothing { is_live self.old.end.state ≡ false
             → (result.happenings ≡ []) × (result.acknowledged ≡ []) × (result.closed ≡ None) }
         ensures within { is_up self.old.end.state ≡ true → is_exactly_once packet ≡ false
-            → FitsRoom (server_gets packet self.old.end).out self.old
+            → CanSend (server_gets packet self.old.end).out self.old
             → Shows (server_gets packet self.old.end) self.old self.new result.happenings result.acknowledged result.closed }
         ensures kept { is_up self.old.end.state ≡ true → (ms : List Message) (more : ℕ)
             → HasRoom ms (packets_size (server_gets packet self.old.end).out + more) self.old → HasRoom ms more self.new }
@@ -156,13 +156,17 @@ impl ServerEnd {
     }
 
     /// Processes a complete packet that is borrowed from a buffer, like `on_packet` with an equal
-    /// packet. Closes the end if an allocation for a copy fails.
+    /// packet. Closes the end if an allocation fails. At a connected end, within the reserved room,
+    /// this happens only for a packet with text, a payload or a list, which is copied.
     pub fn on_view(&mut self, now: u64, view: &PacketView<'_>) -> Progress
         ensures open { is_live self.old.end.state ≡ true → TakesOne now (packet_of view.now) self.old self.new
             result.happenings result.acknowledged result.closed }
         ensures closed { is_live self.old.end.state ≡ false → self.new ≡ self.old }
         ensures nothing { is_live self.old.end.state ≡ false
             → (result.happenings ≡ []) × (result.acknowledged ≡ []) × (result.closed ≡ None) }
+        ensures within { is_up self.old.end.state ≡ true → is_plain (packet_of view.now) ≡ true
+            → CanSend (server_gets (packet_of view.now) self.old.end).out self.old
+            → Shows (server_gets (packet_of view.now) self.old.end) self.old self.new result.happenings result.acknowledged result.closed }
         ensures kept { is_up self.old.end.state ≡ true → (ms : List Message) (more : ℕ)
             → HasRoom ms (packets_size (server_gets (packet_of view.now) self.old.end).out + more) self.old → HasRoom ms more self.new }
     {
@@ -181,8 +185,8 @@ impl ServerEnd {
             → FitsRoom (server_gets packet self.old.end).out self.old → IsOk result }
         ensures kept { is_up self.old.end.state ≡ true → (ms : List Message) (more : ℕ)
             → HasRoom ms (packets_size (server_gets packet self.old.end).out + more) self.old → HasRoom ms more self.new }
-        ensures rises { (c : Connect) → packet ≡ Packet.Connect c → CanRise self.old → (ms : List Message) (more : ℕ)
-            → HasRise c ms more self.old → IsOk result × HasRoom ms more self.new }
+        ensures rises { (connect : Connect) → packet ≡ Packet.Connect connect → CanRise self.old → (ms : List Message) (more : ℕ)
+            → HasRise connect ms more self.old → IsOk result × HasRoom ms more self.new }
         ensures err { OnErr result (self.new ≡ self.old) }
     {
         self.link.take_packet(now, packet)
@@ -227,8 +231,8 @@ impl ServerEnd {
     ) -> Result<(), AllocError>
         ensures room { OnOk result (HasRise connect.now messages.now more self.new) }
         ensures same { self.new ≡ record self.old { room = self.new.room } }
-        ensures before { (ms : List Message) (n : ℕ) → HasRoom ms n self.old → HasRoom ms n self.new }
-        ensures connect_end { (c : Connect) (ms : List Message) (n : ℕ) → HasRise c ms n self.old → HasRise c ms n self.new }
+        ensures before { (ms : List Message) (size : ℕ) → HasRoom ms size self.old → HasRoom ms size self.new }
+        ensures connect_end { (other : Connect) (ms : List Message) (size : ℕ) → HasRise other ms size self.old → HasRise other ms size self.new }
     {
         self.link.reserve_connect(connect, messages, more)
     }
@@ -258,8 +262,8 @@ impl ServerEnd {
         }
     }
 
-    /// Reserves room for publishing `messages` and for sending `more` other bytes, which then can't
-    /// fail for lack of memory. Errors: the first refusal of one of the messages, `Full` if fewer
+    /// Reserves room for publishing `messages` and for sending `more` other bytes, which then don't
+    /// allocate. Errors: the first refusal of one of the messages, `Full` if fewer
     /// identifiers are free than they need, `Memory` if an allocation fails or the bytes in all
     /// exceed `usize`. No room that was reserved earlier is lost.
     pub fn ready(&mut self, messages: &[Message], more: usize) -> Result<(), PublishRefusal>
@@ -269,7 +273,7 @@ impl ServerEnd {
             (IfErr result (λ why. why ≡ PublishRefusal.Memory)) }
         ensures room { OnOk result (HasRoom messages.now more self.new) }
         ensures same { self.new ≡ record self.old { room = self.new.room } }
-        ensures before { (ms : List Message) (n : ℕ) → HasRoom ms n self.old → HasRoom ms n self.new }
+        ensures before { (ms : List Message) (size : ℕ) → HasRoom ms size self.old → HasRoom ms size self.new }
     {
         self.link.ready(messages, more)
     }
@@ -277,7 +281,7 @@ impl ServerEnd {
     /// Publishes a message to the client. Returns its packet identifier if it has QoS 1 or 2
     /// (2.3.1). Without a connection, a QoS 1 or 2 message is stored, and sent once the client has
     /// connected. Errors: `NoSession`, `NotConnected` for QoS 0, `TooLarge`, `Full`, `Memory`, in
-    /// this order; then nothing changes. Does not fail for lack of memory within the reserved room.
+    /// this order. Does not allocate within the reserved room.
     pub fn publish(&mut self, message: Message) -> Result<Option<PacketId>, PublishRefusal>
         ensures refused { IfSome (server_publish_refusal self.old.limit.most self.old.capacity message self.old.end)
             (λ why. result ≡ Err why) }
@@ -316,7 +320,7 @@ impl ServerEnd {
     }
 
     /// Answers a SUBSCRIBE: sends SUBACK with its packet identifier and a code for each request
-    /// (3.9). Errors: `NotConnected`, `TooLarge`, `Memory`; then nothing changes.
+    /// (3.9). Errors: `NotConnected`, `TooLarge`, `Memory`.
     pub fn suback(
         &mut self,
         id: PacketId,
@@ -334,7 +338,7 @@ impl ServerEnd {
     }
 
     /// Answers an UNSUBSCRIBE: sends UNSUBACK with its packet identifier (3.11). Errors:
-    /// `NotConnected`, `TooLarge`, `Memory`; then nothing changes.
+    /// `NotConnected`, `TooLarge`, `Memory`.
     pub fn unsuback(&mut self, id: PacketId) -> Result<(), PublishRefusal>
         ensures refused { IfSome (unsuback_refusal self.old.limit.most self.old.end) (λ why. result ≡ Err why) }
         ensures memory { IfNone (unsuback_refusal self.old.limit.most self.old.end)
@@ -374,7 +378,7 @@ impl ServerEnd {
         ensures capacity { self.new.capacity ≡ self.old.capacity }
         ensures last_activity { self.new.last_activity ≡ self.old.last_activity }
         ensures room { self.new.room ≡ self.old.room }
-        ensures connect_end { (c : Connect) (ms : List Message) (more : ℕ) → HasRise c ms more self.old → HasRise c ms more self.new }
+        ensures connect_end { (connect : Connect) (ms : List Message) (more : ℕ) → HasRise connect ms more self.old → HasRise connect ms more self.new }
     {
         self.link.drop_connection();
     }
@@ -410,7 +414,7 @@ impl ServerEnd {
         self.link.swap_output(other);
     }
 
-    /// How far the connection is.
+    /// The state of the connection.
     pub fn state(&self) -> State
         ensures { result ≡ self.now.end.state }
     {

@@ -1,4 +1,4 @@
-//! Lists that are short for the most part: one item needs no memory of its own.
+//! Lists that are mostly short: one item is stored in place.
 
 ghost use Rattle.std.specs.Prelude.{◌≡◌, ◌<◌, ◌∷◌, ◌++◌, [], length, IsOk, OnOk, OnErr, IfOk};
 
@@ -47,7 +47,7 @@ impl<T: Drop> SmallListBuilder<T> {
         }
     }
 
-    /// Makes room for one more item. The first one needs no memory.
+    /// Makes room for one more item. The first one is stored in place.
     #[tactic(auto, using(crate::proofs::SmallLists::room_for_one, crate::proofs::SmallLists::room_behind, crate::proofs::SmallLists::moved))]
     pub(crate) fn reserve(&mut self) -> Result<(), AllocError>
         ensures items { self.new.items ≡ self.old.items }
@@ -118,8 +118,8 @@ impl<T: Clone> Clone for SmallListBuilder<T> {
     }
 }
 
-/// A list, which may be empty and takes no memory of its own for a single item. Contracts see it as
-/// the list of its items.
+/// A list, which may be empty; one item is stored in place. Contracts see it as the list of its
+/// items.
 #[derive(Debug, Drop)]
 pub struct SmallList<T> {
     gathered: SmallListBuilder<T>,
@@ -177,7 +177,7 @@ impl<T: Drop> IntoIterator for SmallList<T> {
     }
 }
 
-/// The items of a [`SmallList`] by value, in order. Contracts see those that are left.
+/// The items of a [`SmallList`] by value, in order. Contracts see the remaining ones.
 #[derive(Drop)]
 pub struct SmallListIntoIter<T> {
     first: Option<[T; 1]>,

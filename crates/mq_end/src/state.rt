@@ -1,6 +1,6 @@
-//! How far a connection is.
+//! The state of a connection.
 
-/// How far the connection of an end is.
+/// The state of an end's connection.
 #[derive(Clone, Copy, Debug, PartialEq, Eq)]
 pub enum State {
     /// There is none.

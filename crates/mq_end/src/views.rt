@@ -1,8 +1,8 @@
 //! Packets that are borrowed from a buffer (4.3, 4.6). The end copies the message of a PUBLISH;
 //! acknowledgements need no copy.
 
-ghost use Rattle.std.specs.Prelude.{◌≡◌, ◌⊎◌, true, IfOk, OnOk, OnErr};
-ghost use Rattle.mq_end.specs.Prelude.{packet_of, Reply, closes, is_up, flow_gets, Makes, Stays, gets_as};
+ghost use Rattle.std.specs.Prelude.{◌≡◌, ◌<◌, ◌⊎◌, true, IsOk, IfOk, OnOk, OnErr};
+ghost use Rattle.mq_end.specs.Prelude.{packet_of, Reply, closes, is_up, flow_gets, CanSend, is_plain, Makes, Stays, gets_as};
 ghost use Rattle.mq_packet.specs.declared.packet.Packet.TheVariants as packets;
 ghost use Rattle.mq_end.specs.declared.reason.CloseReason.TheVariants as reasons;
 
@@ -13,7 +13,7 @@ use crate::reason::CloseReason;
 use crate::role::Role;
 use crate::state::State;
 use mq_decode::{PacketView, PublishView};
-use mq_packet::PacketId;
+use mq_packet::{Packet, PacketId};
 use mq_topic::Qos;
 use std::alloc::AllocError;
 
@@ -52,6 +52,7 @@ impl Endpoint {
     ) -> Result<Option<CloseReason>, AllocError>
         ensures closed { IfOk result (λ closed. closed ≡ (flow_gets (packets.PubAck id) self.old.end).close) }
         ensures ok { OnOk result (Makes (flow_gets (packets.PubAck id) self.old.end) self.old self.new told.old told.new) }
+        ensures within { 0 < told.old.happenings.room → 0 < told.old.acknowledged.room → IsOk result }
         ensures err { OnErr result (Stays self.old self.new told.old told.new) }
     {
         told.reserve()?;
@@ -84,6 +85,9 @@ impl Endpoint {
         requires up { is_up self.old.end.state ≡ true }
         ensures closed { IfOk result (λ closed. closed ≡ (gets_as role (packet_of view.now) self.old.end).close) }
         ensures ok { OnOk result (Makes (gets_as role (packet_of view.now) self.old.end) self.old self.new told.old told.new) }
+        ensures within { is_plain (packet_of view.now) ≡ true
+            → CanSend (gets_as role (packet_of view.now) self.old.end).out self.old
+            → 0 < told.old.happenings.room → 0 < told.old.acknowledged.room → IsOk result }
         ensures err { OnErr result (Stays self.old self.new told.old told.new) }
     {
         match view {
@@ -92,7 +96,17 @@ impl Endpoint {
             PacketView::PubRec(id) => self.take_pubrec(*id)?,
             PacketView::PubRel(id) => self.take_pubrel(*id)?,
             PacketView::PubComp(id) => self.take_pubcomp(*id),
-            _ => return self.take_owned(role, view, told),
+            PacketView::ConnAck(answer) => {
+                return self.take(role, Packet::ConnAck(*answer), told);
+            }
+            PacketView::UnsubAck(id) => return self.take(role, Packet::UnsubAck(*id), told),
+            PacketView::PingReq => return self.take(role, Packet::PingReq, told),
+            PacketView::PingResp => return self.take(role, Packet::PingResp, told),
+            PacketView::Disconnect => return self.take(role, Packet::Disconnect, told),
+            PacketView::Connect(_)
+            | PacketView::Subscribe { .. }
+            | PacketView::SubAck { .. }
+            | PacketView::Unsubscribe { .. } => return self.take_owned(role, view, told),
         }
         Ok(None)
     }
@@ -106,6 +120,9 @@ impl Endpoint {
     ) -> Result<Option<CloseReason>, AllocError>
         ensures closed { IfOk result (λ closed. closed ≡ (gets_as role (packet_of view.now) self.old.end).close) }
         ensures ok { OnOk result (Makes (gets_as role (packet_of view.now) self.old.end) self.old self.new told.old told.new) }
+        ensures within { is_up self.old.end.state ≡ true → is_plain (packet_of view.now) ≡ true
+            → CanSend (gets_as role (packet_of view.now) self.old.end).out self.old
+            → 0 < told.old.happenings.room → 0 < told.old.acknowledged.room → IsOk result }
         ensures err { OnErr result (Stays self.old self.new told.old told.new) }
     {
         match self.state {
@@ -122,8 +139,13 @@ impl Endpoint {
         view: &PacketView<'_>,
         told: &mut ProgressBuilder,
     ) -> Option<CloseReason>
-        ensures { (r : Reply) × ((r ≡ gets_as role (packet_of view.now) self.old.end) ⊎ (r ≡ closes reasons.Memory self.old.end))
+        ensures made { (r : Reply) × ((r ≡ gets_as role (packet_of view.now) self.old.end) ⊎ (r ≡ closes reasons.Memory self.old.end))
             × (result ≡ r.close) × Makes r self.old self.new told.old told.new }
+        ensures within { is_up self.old.end.state ≡ true → is_plain (packet_of view.now) ≡ true
+            → CanSend (gets_as role (packet_of view.now) self.old.end).out self.old
+            → 0 < told.old.happenings.room → 0 < told.old.acknowledged.room
+            → (result ≡ (gets_as role (packet_of view.now) self.old.end).close)
+            × Makes (gets_as role (packet_of view.now) self.old.end) self.old self.new told.old told.new }
     {
         match self.take_lent(role, view, told) {
             Ok(closed) => closed,

@@ -8,5 +8,5 @@ use Rattle.std_alloc.specs.Box.Ownership.{box_owns}
 
 -- The value at this address, with the right to free its block, if there is a value.
 abbrev pub boxed : (R : RattleType) → Ptr → Option R.Denot → Fml
-boxed R p None = ftrue
-boxed R p (Some x) = box_owns chunk R p x
+boxed R pointer None = ftrue
+boxed R pointer (Some value) = box_owns chunk R pointer value

@@ -18,7 +18,7 @@ Passes R (Some old) (Some new) = R old new
 
 -- The code of a result that this relation allows.
 abbrev pub Codes : {X : Type 0} → (Result X CallFault → ℤ) → (Result X CallFault → Type 0) → ℤ → Type 0
-Codes {X} code_of Allows code = (r : Result X CallFault) × Allows r × (code ≡ code_of r)
+Codes {X} code_of Allows code = (result : Result X CallFault) × Allows result × (code ≡ code_of result)
 
 -- They are related by a call of the client, whose result's code is returned.
 abbrev pub Calls : {X : Type 0} → (Result X CallFault → ℤ) → (WithEvents → WithEvents → Result X CallFault → Type 0) → Option WithEvents → Option WithEvents → ℤ → Type 0
@@ -36,7 +36,7 @@ IsNextTick client time =
 -- A window of 0 sets no limit.
 abbrev pub window_of : ℕ → Option ℕ
 window_of zero = None
-window_of (suc n) = Some (suc n)
+window_of (suc less) = Some (suc less)
 
 abbrev pub HasOptions : List ℕ → ℕ → ℕ → ℕ → ℕ → ClientConfig → Type 0
 HasOptions id keep_alive max_packet capacity window config =

@@ -51,7 +51,7 @@ call_code (Err fault) = call_fault_code fault
 
 -- The code of a packet identifier or a number of bytes.
 abbrev pub count_code : Result ℕ CallFault → ℤ
-count_code (Ok n) = pos n
+count_code (Ok count) = pos count
 count_code (Err fault) = call_fault_code fault
 
 -- The number of the reason why an end closed.

@@ -1,4 +1,4 @@
--- What the exported functions return.
+-- The results of the exported functions.
 use Rattle.std.specs.Prelude.{◌≡◌, ℕ, Bool, true, false, List, ℤ, pos, negsuc, Result}
 use Rattle.mq_decode.specs.Fault.{fault_number}
 use Rattle.mq_decode.specs.Limits.{Bounds, strict, loose}
@@ -25,9 +25,9 @@ ReportsFront (fronts.Fault found) fields fault code =
 
 -- The front of the buffer under a valid bound is reported.
 abbrev pub ReportsPacket : ℕ → Bool → List ℕ → PacketFields → Fault → ℤ → Type 0
-ReportsPacket most lenient b fields fault code =
-    (front : Front) × IsLocated (bounds most lenient) b front × ReportsFront front fields fault code
+ReportsPacket most lenient buffer fields fault code =
+    (front : Front) × IsLocated (bounds most lenient) buffer front × ReportsFront front fields fault code
 
 -- The code of a result that this relation allows.
 abbrev pub CodesOf : (Result ℕ EncodeFault → Type 0) → ℤ → Type 0
-CodesOf Allows code = (r : Result ℕ EncodeFault) × Allows r × (code ≡ encode_code r)
+CodesOf Allows code = (result : Result ℕ EncodeFault) × Allows result × (code ≡ encode_code result)

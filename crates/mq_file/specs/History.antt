@@ -33,20 +33,20 @@ file_size calls = length (seen_after calls)
 -- A crash after calls may leave this content: that of the calls, or one in which writes since the
 -- last sync changed their ranges in any way.
 abbrev pub MayLeave : List FileCall → List ℕ → Type 0
-MayLeave [] c = c ≡ []
-MayLeave (Wrote at bytes ∷ before) c =
-    (c ≡ seen_after (Wrote at bytes ∷ before))
-    ⊎ ((d : List ℕ) × MayLeave before d × Torn at (length bytes) d c)
-MayLeave (Stumbled at bytes ∷ before) c =
-    (d : List ℕ) × MayLeave before d × Torn at (length bytes) d c
-MayLeave (Synced ∷ before) c = c ≡ seen_after before
-MayLeave (Failed ∷ before) c = MayLeave before c
+MayLeave [] content = content ≡ []
+MayLeave (Wrote at bytes ∷ before) content =
+    (content ≡ seen_after (Wrote at bytes ∷ before))
+    ⊎ ((earlier : List ℕ) × MayLeave before earlier × Torn at (length bytes) earlier content)
+MayLeave (Stumbled at bytes ∷ before) content =
+    (earlier : List ℕ) × MayLeave before earlier × Torn at (length bytes) earlier content
+MayLeave (Synced ∷ before) content = content ≡ seen_after before
+MayLeave (Failed ∷ before) content = MayLeave before content
 
 -- A crash at some time since a number of calls could have left this content.
 abbrev pub LeftSince : List FileCall → ℕ → List ℕ → Type 0
-LeftSince [] t c = (t ≤ 0) × MayLeave [] c
-LeftSince (call ∷ before) t c =
-    ((t ≤ length (call ∷ before)) × MayLeave (call ∷ before) c) ⊎ LeftSince before t c
+LeftSince [] time content = (time ≤ 0) × MayLeave [] content
+LeftSince (call ∷ before) time content =
+    ((time ≤ length (call ∷ before)) × MayLeave (call ∷ before) content) ⊎ LeftSince before time content
 
 -- the number of calls that failed
 abbrev pub failures : List FileCall → ℕ

@@ -12,53 +12,53 @@ use Rattle.mq_flow.specs.declared.table.Held.TheVariants.{Waiting, Released}
 
 -- The message, unless it is acknowledged.
 abbrev pub message_in : Held → List Entry
-message_in (Waiting e) = e ∷ []
-message_in (Released i) = []
+message_in (Waiting entry) = entry ∷ []
+message_in (Released id) = []
 
 -- The identifier, if it is released.
 abbrev pub release_in : Held → List ℕ
-release_in (Waiting e) = []
-release_in (Released i) = i ∷ []
+release_in (Waiting entry) = []
+release_in (Released id) = id ∷ []
 
 -- the messages that are not acknowledged, in the table's order
 abbrev pub messages : List (ℕ × Held) → List Entry
-messages = flat_map (λ p. message_in p.1)
+messages = flat_map (λ pair. message_in pair.1)
 
 -- the released identifiers, in the table's order
 abbrev pub releases : List (ℕ × Held) → List ℕ
-releases = flat_map (λ p. release_in p.1)
+releases = flat_map (λ pair. release_in pair.1)
 
 -- the book of a table and of claimed identifiers
 abbrev pub book_of : List (ℕ × Held) → List Claimed → SenderBook
-book_of ps cs = record { entries = messages ps; released = releases ps; claimed = cs }
+book_of pairs requests = record { entries = messages pairs; released = releases pairs; claimed = requests }
 
 -- The identifier of an entry.
 abbrev pub id_in : Held → ℕ
-id_in (Waiting e) = e.id
-id_in (Released i) = i
+id_in (Waiting entry) = entry.id
+id_in (Released id) = id
 
 -- Each entry is stored under its identifier.
 abbrev pub AreUnder : List (ℕ × Held) → Type 0
-AreUnder = AllByRecursion (λ p. id_in p.1 ≡ p.0)
+AreUnder = AllByRecursion (λ pair. id_in pair.1 ≡ pair.0)
 
 -- the same, and its PUBLISH was sent (3.3.1.1)
 abbrev pub gone_out : Held → Held
-gone_out (Waiting e) = Waiting (record { id = e.id; message = e.message; sent = true })
-gone_out (Released i) = Released i
+gone_out (Waiting entry) = Waiting (record { id = entry.id; message = entry.message; sent = true })
+gone_out (Released id) = Released id
 
 -- The topic and payload bytes of the message, unless it is acknowledged.
 abbrev pub bytes_in : Held → ℕ
-bytes_in (Waiting e) = message_bytes e.message
-bytes_in (Released i) = 0
+bytes_in (Waiting entry) = message_bytes entry.message
+bytes_in (Released id) = 0
 
 -- the bytes of the entry that is found
 abbrev pub bytes_found : Option Held → ℕ
 bytes_found None = 0
-bytes_found (Some h) = bytes_in h
+bytes_found (Some held) = bytes_in held
 
 -- the bytes of the message of an identifier; 0 without a message
 abbrev pub bytes_under : ℕ → List (ℕ × Held) → ℕ
-bytes_under i ps = bytes_found (lookup (nat_eq i) ps)
+bytes_under id pairs = bytes_found (lookup (nat_eq id) pairs)
 
 -- ---- places, some of which are empty
 
@@ -69,7 +69,7 @@ pub record Kept : Type 0 where
 
 -- the pair in a place
 abbrev pub pair_in : Option Held → List (ℕ × Held)
-pair_in (Some h) = (id_in h, h) ∷ []
+pair_in (Some held) = (id_in held, held) ∷ []
 pair_in None = []
 
 -- the pairs in places, in their order
@@ -78,21 +78,21 @@ pairs_in = flat_map pair_in
 
 -- whether an identifier's pair is in a place
 abbrev pub is_under : ℕ → Option Held → Bool
-is_under i (Some h) = nat_eq (id_in h) i
-is_under i None = false
+is_under id (Some held) = nat_eq (id_in held) id
+is_under id None = false
 
 -- the first, or else the second
 abbrev pub later : Option ℕ → Option ℕ → Option ℕ
-later (Some i) o = Some i
-later None o = o
+later (Some place) other = Some place
+later None other = other
 
 -- The slot of an identifier; slots are numbered from `at`.
 abbrev pub place_from : ℕ → ℕ → List (Option Held) → Option ℕ
-place_from at i [] = None
-place_from at i (x ∷ xs) = later (place_from (at + 1) i xs) (if is_under i x then Some at else None)
+place_from at id [] = None
+place_from at id (slot ∷ slots) = later (place_from (at + 1) id slots) (if is_under id slot then Some at else None)
 
 -- Each identifier is in at most one slot, a look-up returns it, and `count` slots are not empty.
-pub record IsPlaced (xs : List (Option Held)) (place : ℕ → Option ℕ) (count : ℕ) : Type 0 where
-  pub at : (i : ℕ) → place i ≡ place_from 0 i xs
-  pub once : (i : ℕ) → times i (keys_of (pairs_in xs)) ≤ 1
-  pub many : count ≡ length (pairs_in xs)
+pub record IsPlaced (slots : List (Option Held)) (place : ℕ → Option ℕ) (count : ℕ) : Type 0 where
+  pub at : (id : ℕ) → place id ≡ place_from 0 id slots
+  pub once : (id : ℕ) → times id (keys_of (pairs_in slots)) ≤ 1
+  pub many : count ≡ length (pairs_in slots)

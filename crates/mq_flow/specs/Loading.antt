@@ -35,8 +35,8 @@ bad_at bytes = Err (length bytes)
 -- a number of two bytes
 unfoldable pub number_at : List ℕ → Result (ℕ × List ℕ) ℕ
 number_at [] = bad_at []
-number_at (a ∷ []) = bad_at (a ∷ [])
-number_at (a ∷ b ∷ rest) = Ok (256 * a + b, rest)
+number_at (high ∷ []) = bad_at (high ∷ [])
+number_at (high ∷ low ∷ rest) = Ok (256 * high + low, rest)
 
 -- a number of four bytes
 unfoldable pub count_at : List ℕ → Result (ℕ × List ℕ) ℕ
@@ -44,25 +44,25 @@ count_at bytes = if nat_lt (length bytes) 4 then bad_at bytes else (number_at by
 
 -- a number from 1 on
 unfoldable pub capacity_at : List ℕ → Result (ℕ × List ℕ) ℕ
-capacity_at bytes = number_at bytes >>= λ n. if n.0 == 0 then bad_at bytes else Ok n
+capacity_at bytes = number_at bytes >>= λ capacity. if capacity.0 == 0 then bad_at bytes else Ok capacity
 
 -- A number of items for which there is room.
 unfoldable pub number_within : ℕ → List ℕ → Result (ℕ × List ℕ) ℕ
-number_within room bytes = number_at bytes >>= λ n. if nat_lt room n.0 then bad_at bytes else Ok n
+number_within room bytes = number_at bytes >>= λ number. if nat_lt room number.0 then bad_at bytes else Ok number
 
 -- an identifier that is free (2.3.1)
 unfoldable pub free_at : SenderBook → List ℕ → Result (ℕ × List ℕ) ℕ
-free_at b bytes = number_at bytes >>= λ id. if id.0 == 0 || nat_lt 0 (times id.0 (uses b)) then bad_at bytes else Ok id
+free_at book bytes = number_at bytes >>= λ id. if id.0 == 0 || nat_lt 0 (times id.0 (uses book)) then bad_at bytes else Ok id
 
 -- a quality of service over 0
 unfoldable pub qos_at : List ℕ → Result (Qos × List ℕ) ℕ
 qos_at [] = bad_at []
-qos_at (b ∷ rest) = if b == 1 then Ok (Q1, rest) else (if b == 2 then Ok (Q2, rest) else bad_at (b ∷ rest))
+qos_at (byte ∷ rest) = if byte == 1 then Ok (Q1, rest) else (if byte == 2 then Ok (Q2, rest) else bad_at (byte ∷ rest))
 
 -- 0 or 1
 unfoldable pub flag_at : List ℕ → Result (Bool × List ℕ) ℕ
 flag_at [] = bad_at []
-flag_at (b ∷ rest) = if b == 0 then Ok (false, rest) else (if b == 1 then Ok (true, rest) else bad_at (b ∷ rest))
+flag_at (byte ∷ rest) = if byte == 0 then Ok (false, rest) else (if byte == 1 then Ok (true, rest) else bad_at (byte ∷ rest))
 
 -- quality of service, whether it was sent, RETAIN
 unfoldable pub flags_at : List ℕ → Result (Flags × List ℕ) ℕ
@@ -70,12 +70,12 @@ flags_at bytes = qos_at bytes >>= λ qos. flag_at qos.1 >>= λ sent. flag_at sen
 
 -- UTF-8 that is a topic name (4.7)
 abbrev pub is_topic : List ℕ → Bool
-is_topic t = is_utf8 t && is_none (name_fault t)
+is_topic text = is_utf8 text && is_none (name_fault text)
 
 -- a topic name, behind a count of two bytes
 unfoldable pub topic_at : List ℕ → Result (List ℕ × List ℕ) ℕ
-topic_at bytes = number_at bytes >>= λ n.
-    if nat_lt (length n.1) n.0 then bad_at bytes else (if is_topic (take n.0 n.1) then Ok (take n.0 n.1, drop n.0 n.1) else bad_at bytes)
+topic_at bytes = number_at bytes >>= λ size.
+    if nat_lt (length size.1) size.0 then bad_at bytes else (if is_topic (take size.0 size.1) then Ok (take size.0 size.1, drop size.0 size.1) else bad_at bytes)
 
 -- The PUBLISH with a topic name and a payload of these sizes has a remaining length over the limit
 -- (2.2.3, 3.3).
@@ -84,7 +84,7 @@ is_over_limit limit topic payload = nat_lt limit (2 + topic + 2 + payload)
 
 -- A payload behind a length of four bytes; if it is invalid, its place is behind the length.
 unfoldable pub payload_at : (limit : ℕ) → ℕ → List ℕ → Result (List ℕ × List ℕ) ℕ
-payload_at limit topic bytes = count_at bytes >>= λ n. if is_over_limit limit topic n.0 || nat_lt (length n.1) n.0 then bad_at n.1 else Ok (take n.0 n.1, drop n.0 n.1)
+payload_at limit topic bytes = count_at bytes >>= λ size. if is_over_limit limit topic size.0 || nat_lt (length size.1) size.0 then bad_at size.1 else Ok (take size.0 size.1, drop size.0 size.1)
 
 unfoldable pub message_at : (limit : ℕ) → Flags → List ℕ → Result (Message × List ℕ) ℕ
 message_at limit flags bytes = topic_at bytes >>= λ topic. payload_at limit (length topic.0) topic.1 >>= λ payload.
@@ -92,37 +92,37 @@ message_at limit flags bytes = topic_at bytes >>= λ topic. payload_at limit (le
 
 -- a message that is not acknowledged, with an identifier that is free before it
 unfoldable pub entry_at : (limit : ℕ) → SenderBook → List ℕ → Result (Entry × List ℕ) ℕ
-entry_at limit b bytes = free_at b bytes >>= λ id. flags_at id.1 >>= λ flags. message_at limit flags.0 flags.1 >>= λ message.
+entry_at limit book bytes = free_at book bytes >>= λ id. flags_at id.1 >>= λ flags. message_at limit flags.0 flags.1 >>= λ message.
     Ok (record { id = id.0; message = message.0; sent = flags.0.sent }, message.1)
 
 -- the book with one entry more
 unfoldable pub with_entry_at : (limit : ℕ) → SenderBook → List ℕ → Result (SenderBook × List ℕ) ℕ
-with_entry_at limit b bytes = entry_at limit b bytes >>= λ e. Ok (accept e.0.id e.0.message e.0.sent b, e.1)
+with_entry_at limit book bytes = entry_at limit book bytes >>= λ entry. Ok (accept entry.0.id entry.0.message entry.0.sent book, entry.1)
 
 -- The book with `count` more entries.
 abbrev pub entries_at : (limit : ℕ) → ℕ → SenderBook → List ℕ → Result (SenderBook × List ℕ) ℕ
-entries_at limit zero b bytes = Ok (b, bytes)
-entries_at limit (suc more) b bytes = with_entry_at limit b bytes >>= λ e. entries_at limit more e.0 e.1
+entries_at limit zero book bytes = Ok (book, bytes)
+entries_at limit (suc more) book bytes = with_entry_at limit book bytes >>= λ next. entries_at limit more next.0 next.1
 
 -- the book with one released identifier more
 abbrev pub with_released : ℕ → SenderBook → SenderBook
-with_released i b = record b { released = b.released ++ i ∷ [] }
+with_released id book = record book { released = book.released ++ id ∷ [] }
 
 unfoldable pub with_released_at : SenderBook → List ℕ → Result (SenderBook × List ℕ) ℕ
-with_released_at b bytes = free_at b bytes >>= λ id. Ok (with_released id.0 b, id.1)
+with_released_at book bytes = free_at book bytes >>= λ id. Ok (with_released id.0 book, id.1)
 
 -- The book with `count` more released identifiers.
 abbrev pub released_at : ℕ → SenderBook → List ℕ → Result (SenderBook × List ℕ) ℕ
-released_at zero b bytes = Ok (b, bytes)
-released_at (suc more) b bytes = with_released_at b bytes >>= λ r. released_at more r.0 r.1
+released_at zero book bytes = Ok (book, bytes)
+released_at (suc more) book bytes = with_released_at book bytes >>= λ next. released_at more next.0 next.1
 
 -- how many identifiers are released, and they
 abbrev pub released_within : ℕ → SenderBook → List ℕ → Result (SenderBook × List ℕ) ℕ
-released_within room b bytes = number_within room bytes >>= λ m. released_at m.0 b m.1
+released_within room book bytes = number_within room bytes >>= λ count. released_at count.0 book count.1
 
 -- The entries and the released identifiers, each list behind its length.
 abbrev pub book_at : (limit : ℕ) → ℕ → List ℕ → Result (SenderBook × List ℕ) ℕ
-book_at limit capacity bytes = number_within capacity bytes >>= λ n. entries_at limit n.0 blank_book n.1 >>= λ entries. released_within (capacity - n.0) entries.0 entries.1
+book_at limit capacity bytes = number_within capacity bytes >>= λ count. entries_at limit count.0 blank_book count.1 >>= λ entries. released_within (capacity - count.0) entries.0 entries.1
 
 -- The sender's state: the capacity, the identifier assigned last, the book.
 unfoldable pub sender_at : (limit : ℕ) → List ℕ → Result (Sending × List ℕ) ℕ
@@ -135,17 +135,17 @@ next_at last bytes = number_at bytes >>= λ id. if nat_le id.0 last then bad_at 
 
 -- The set with `count` more identifiers in ascending order.
 abbrev pub received_at : ℕ → ℕ → ReceiverBook → List ℕ → Result (ReceiverBook × List ℕ) ℕ
-received_at zero last r bytes = Ok (r, bytes)
-received_at (suc more) last r bytes = next_at last bytes >>= λ id. received_at more id.0 (on_publish id.0 r) id.1
+received_at zero last book bytes = Ok (book, bytes)
+received_at (suc more) last book bytes = next_at last bytes >>= λ id. received_at more id.0 (on_publish id.0 book) id.1
 
 -- the identifiers that were received: each from 1 on, ascending
 unfoldable pub receiver_at : List ℕ → Result (ReceiverBook × List ℕ) ℕ
-receiver_at bytes = number_at bytes >>= λ n. received_at n.0 0 none_received n.1
+receiver_at bytes = number_at bytes >>= λ count. received_at count.0 0 none_received count.1
 
 -- nothing follows
 abbrev pub end_at : List ℕ → Result (Unit {0}) ℕ
 end_at [] = Ok tt
-end_at (b ∷ bytes) = bad_at (b ∷ bytes)
+end_at (byte ∷ bytes) = bad_at (byte ∷ bytes)
 
 -- The rest behind the version.
 unfoldable pub session_at : (limit : ℕ) → List ℕ → Result Session ℕ
@@ -180,7 +180,7 @@ Fails (unread.Bad bad) read = read ≡ Err bad.left
 
 abbrev pub Gives : {X Y : Type 0} → (X → Y) → Result X Unread → Result Y ℕ → Type 0
 Gives view (Ok x) read = read ≡ Ok (view x)
-Gives view (Err e) read = Fails e read
+Gives view (Err why) read = Fails why read
 
 -- and of the whole
 abbrev pub Loads : {A : Type 0} → Result A LoadError → Result A LoadError → Type 0

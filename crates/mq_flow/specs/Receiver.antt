@@ -16,16 +16,16 @@ none_received = FinSet.empty
 
 -- A QoS 2 PUBLISH with this identifier is a new message, to be delivered (4.3.3).
 abbrev pub is_new : ℕ → ReceiverBook → Bool
-is_new i r = not (FinSet.contains r i)
+is_new id book = not (FinSet.contains book id)
 
 -- PUBLISH with QoS 2: its identifier is stored, and PUBREC responds (4.3.3).
 abbrev pub on_publish : ℕ → ReceiverBook → ReceiverBook
-on_publish i r = FinSet.insert r i
+on_publish id book = FinSet.insert book id
 
 -- PUBREL: the identifier is forgotten, and PUBCOMP responds, also if it was not stored (4.3.3).
 abbrev pub on_pubrel : ℕ → ReceiverBook → ReceiverBook
-on_pubrel i r = FinSet.remove r i
+on_pubrel id book = FinSet.remove book id
 
 -- the numbers of a list are identifiers, each from 1 to 65,535 (2.3.1)
 abbrev pub AreIdentifiers : List ℕ → Type 0
-AreIdentifiers ids = (i : ℕ) → list_any (eq_by_cmp nat_cmp i) ids ≡ true → IsIdentifier i
+AreIdentifiers ids = (id : ℕ) → list_any (eq_by_cmp nat_cmp id) ids ≡ true → IsIdentifier id

@@ -25,19 +25,19 @@ signature = 0x4d ∷ 0x51 ∷ 0x53 ∷ 1 ∷ []
 
 -- a number of four bytes, the high byte first
 abbrev pub count : ℕ → List ℕ
-count n = number (n / 65536) ++ number (n % 65536)
+count value = number (value / 65536) ++ number (value % 65536)
 
 -- a payload, behind a count of four bytes
 abbrev pub saved_payload : List ℕ → List ℕ
-saved_payload p = count (length p) ++ p
+saved_payload payload = count (length payload) ++ payload
 
 -- quality of service, whether it was sent, RETAIN
 abbrev pub saved_flags : Entry → List ℕ
-saved_flags e = qos_number e.message.qos ∷ bit e.sent ∷ bit e.message.retain ∷ []
+saved_flags entry = qos_number entry.message.qos ∷ bit entry.sent ∷ bit entry.message.retain ∷ []
 
 -- a message that is not acknowledged, with its identifier (4.3.2, 4.3.3)
 abbrev pub saved_entry : Entry → List ℕ
-saved_entry e = number e.id ++ (saved_flags e ++ (counted e.message.topic ++ saved_payload e.message.payload))
+saved_entry entry = number entry.id ++ (saved_flags entry ++ (counted entry.message.topic ++ saved_payload entry.message.payload))
 
 -- The number of identifiers, followed by the identifiers.
 abbrev pub saved_ids : List ℕ → List ℕ
@@ -45,65 +45,65 @@ saved_ids ids = number (length ids) ++ flat_map number ids
 
 -- The sender's state in order, without the identifiers of SUBSCRIBE and UNSUBSCRIBE.
 abbrev pub saved_sender : Sending → List ℕ
-saved_sender s = number s.capacity ++ (number s.last ++ (number (length s.book.entries) ++ (flat_map saved_entry s.book.entries ++ saved_ids s.book.released)))
+saved_sender sender = number sender.capacity ++ (number sender.last ++ (number (length sender.book.entries) ++ (flat_map saved_entry sender.book.entries ++ saved_ids sender.book.released)))
 
 -- the identifiers of a set, ascending: those of 1 to 65,535 that are in it
 unfoldable pub ascending : ReceiverBook → List ℕ
-ascending r = filter (λ i. set.contains r i) (range_with_len 1 65535)
+ascending book = filter (λ id. set.contains book id) (range_with_len 1 65535)
 
 -- the identifiers that were received, ascending (4.3.3)
 abbrev pub saved_receiver : ReceiverBook → List ℕ
-saved_receiver r = saved_ids (ascending r)
+saved_receiver book = saved_ids (ascending book)
 
 abbrev pub saved_form : Session → List ℕ
-saved_form s = signature ++ (saved_sender s.sender ++ saved_receiver s.receiver)
+saved_form session = signature ++ (saved_sender session.sender ++ saved_receiver session.receiver)
 
 -- the session, no SUBSCRIBE or UNSUBSCRIBE waits, and no room is reserved
 abbrev pub without_claims : Session → Session
-without_claims s = record s { sender = record s.sender { book = no_claims s.sender.book; room = 0 } }
+without_claims session = record session { sender = record session.sender { book = no_claims session.sender.book; room = 0 } }
 
--- nothing is claimed, no room is reserved, and b is the saved form
-pub record Saved (s : Session) (b : List ℕ) : Type 0 where
-  pub unclaimed : s.sender.book.claimed ≡ []
-  pub unreserved : s.sender.room ≡ 0
-  pub form : b ≡ saved_form s
+-- nothing is claimed, no room is reserved, and `bytes` is the saved form
+pub record Saved (session : Session) (bytes : List ℕ) : Type 0 where
+  pub unclaimed : session.sender.book.claimed ≡ []
+  pub unreserved : session.sender.room ≡ 0
+  pub form : bytes ≡ saved_form session
 
 -- the PUBLISH of a message with an identifier has a remaining length within a limit (2.2.3, 3.3)
 abbrev pub IsWithinLimit : ℕ → Message → Type 0
-IsWithinLimit limit m = 2 + length m.topic + 2 + length m.payload ≤ limit
+IsWithinLimit limit message = 2 + length message.topic + 2 + length message.payload ≤ limit
 
 -- A stored message has QoS 1 or 2 (4.3.1), a topic name (4.7), and fits the limit.
-pub record IsKept (limit : ℕ) (e : Entry) : Type 0 where
-  pub acknowledged : e.message.qos ≡ Q0 → ⊥
-  pub topic : IsTopicName e.message.topic
-  pub within : IsWithinLimit limit e.message
+pub record IsKept (limit : ℕ) (entry : Entry) : Type 0 where
+  pub acknowledged : entry.message.qos ≡ Q0 → ⊥
+  pub topic : IsTopicName entry.message.topic
+  pub within : IsWithinLimit limit entry.message
 
 -- The invariant of a session whose PUBLISH packets fit the limit: its identifiers in use are sound,
 -- its capacity is 1 to 65,535, and the received identifiers are valid (2.3.1).
-pub record IsSessionWithin (limit : ℕ) (s : Session) : Type 0 where
-  pub sound : IsSound s.sender.capacity s.sender.book
-  pub able : 0 < s.sender.capacity
-  pub most : s.sender.capacity ≤ 65535
-  pub last : s.sender.last ≤ 65535
-  pub entries : AllByRecursion (IsKept limit) s.sender.book.entries
-  pub received : (i : ℕ) → set.contains s.receiver i ≡ true → IsIdentifier i
+pub record IsSessionWithin (limit : ℕ) (session : Session) : Type 0 where
+  pub sound : IsSound session.sender.capacity session.sender.book
+  pub able : 0 < session.sender.capacity
+  pub most : session.sender.capacity ≤ 65535
+  pub last : session.sender.last ≤ 65535
+  pub entries : AllByRecursion (IsKept limit) session.sender.book.entries
+  pub received : (id : ℕ) → set.contains session.receiver id ≡ true → IsIdentifier id
 
 -- the PUBLISH of each message is within a limit (2.2.3, 3.3)
 abbrev pub AreWithin : ℕ → List Entry → Type 0
-AreWithin limit es = AllByRecursion (λ e. IsWithinLimit limit e.message) es
+AreWithin limit entries = AllByRecursion (λ entry. IsWithinLimit limit entry.message) entries
 
 -- each message has a topic name (4.7)
 abbrev pub HaveTopics : List Entry → Type 0
-HaveTopics es = AllByRecursion (λ e. IsTopicName e.message.topic) es
+HaveTopics entries = AllByRecursion (λ entry. IsTopicName entry.message.topic) entries
 
 -- The sender's part of this invariant.
-pub record IsSenderWithin (limit : ℕ) (s : Sending) : Type 0 where
-  pub sound : IsSound s.capacity s.book
-  pub able : 0 < s.capacity
-  pub most : s.capacity ≤ 65535
-  pub last : s.last ≤ 65535
-  pub entries : AllByRecursion (IsKept limit) s.book.entries
+pub record IsSenderWithin (limit : ℕ) (sender : Sending) : Type 0 where
+  pub sound : IsSound sender.capacity sender.book
+  pub able : 0 < sender.capacity
+  pub most : sender.capacity ≤ 65535
+  pub last : sender.last ≤ 65535
+  pub entries : AllByRecursion (IsKept limit) sender.book.entries
 
 -- and the limit is the standard's (2.2.3)
 abbrev pub IsSession : Session → Type 0
-IsSession s = IsSessionWithin 268435455 s
+IsSession session = IsSessionWithin 268435455 session

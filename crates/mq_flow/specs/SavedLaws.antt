@@ -11,17 +11,18 @@ use Rattle.mq_flow.specs.Loading.{read_session}
 -- The laws of version 1.
 pub record SavedLaws : Type 0 where
   -- A written form is read back.
-  pub again : (s : Session) → IsSession s → s.sender.book.claimed ≡ [] → s.sender.room ≡ 0 → read_session (saved_form s) ≡ Ok s
+  pub again : (session : Session) → IsSession session → session.sender.book.claimed ≡ [] → session.sender.room ≡ 0 → read_session (saved_form session) ≡ Ok session
   -- A form that is read was written so.
-  pub found : (b : List ℕ) (s : Session) → AreBytes b → read_session b ≡ Ok s → Saved s b × IsSession s
+  pub found : (bytes : List ℕ) (session : Session) → AreBytes bytes → read_session bytes ≡ Ok session → Saved session bytes × IsSession session
   -- bytes are the saved form of at most one session, whatever the limit
-  pub one : (limit : ℕ) (b : List ℕ) (s t : Session) → IsSessionWithin limit s → IsSessionWithin limit t → Saved s b → Saved t b → s ≡ t
+  pub one : (limit : ℕ) (bytes : List ℕ) (session other : Session) → IsSessionWithin limit session → IsSessionWithin limit other → Saved session bytes → Saved other bytes → session ≡ other
 
 -- The laws of version 2.
 pub record SavedTwoLaws : Type 0 where
   -- A written form is read back, also one of version 1.
-  pub first : (s : Session) → IsSession s → s.sender.book.claimed ≡ [] → s.sender.room ≡ 0 → read_saved (saved_form s) ≡ Ok (record { client = None; established = false; session = s })
-  pub again : (client : List ℕ) (established : Bool) (s : Session) → IsText client → IsSession s → s.sender.book.claimed ≡ [] → s.sender.room ≡ 0
-      → read_saved (saved_form_two client established s) ≡ Ok (record { client = Some client; established = established; session = s })
+  pub first : (session : Session) → IsSession session → session.sender.book.claimed ≡ [] → session.sender.room ≡ 0
+      → read_saved (saved_form session) ≡ Ok (record { client = None; established = false; session = session })
+  pub again : (client : List ℕ) (established : Bool) (session : Session) → IsText client → IsSession session → session.sender.book.claimed ≡ [] → session.sender.room ≡ 0
+      → read_saved (saved_form_two client established session) ≡ Ok (record { client = Some client; established = established; session = session })
   -- A form that is read was written so.
-  pub found : (b : List ℕ) (v : value.Saved) → AreBytes b → read_saved b ≡ Ok v → IsSavedAs v b × IsSession v.session
+  pub found : (bytes : List ℕ) (saved : value.Saved) → AreBytes bytes → read_saved bytes ≡ Ok saved → IsSavedAs saved bytes × IsSession saved.session

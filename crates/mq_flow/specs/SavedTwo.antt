@@ -22,20 +22,20 @@ signature_two = 0x4d ∷ 0x51 ∷ 0x53 ∷ 2 ∷ []
 -- the client's identifier (3.1.3.1), whether a CONNACK that accepts was read for the session, and
 -- the session
 abbrev pub saved_form_two : List ℕ → Bool → Session → List ℕ
-saved_form_two client established s = signature_two ++ (counted client ++ (bit established ∷ (saved_sender s.sender ++ saved_receiver s.receiver)))
+saved_form_two client established session = signature_two ++ (counted client ++ (bit established ∷ (saved_sender session.sender ++ saved_receiver session.receiver)))
 
--- the identifier is a text, nothing is claimed, no room is reserved, and b is the saved form,
+-- the identifier is a text, nothing is claimed, no room is reserved, and `bytes` is the saved form,
 -- version 2
-pub record SavedTwo (client : List ℕ) (established : Bool) (s : Session) (b : List ℕ) : Type 0 where
+pub record SavedTwo (client : List ℕ) (established : Bool) (session : Session) (bytes : List ℕ) : Type 0 where
   pub text : IsText client
-  pub unclaimed : s.sender.book.claimed ≡ []
-  pub unreserved : s.sender.room ≡ 0
-  pub form : b ≡ saved_form_two client established s
+  pub unclaimed : session.sender.book.claimed ≡ []
+  pub unreserved : session.sender.room ≡ 0
+  pub form : bytes ≡ saved_form_two client established session
 
--- `b` is a saved form: version 2 if it names a client; otherwise version 1, which doesn't say that
--- the session is established.
+-- `bytes` is a saved form: version 2 if it names a client; otherwise version 1, which doesn't say
+-- that the session is established.
 abbrev pub IsSavedAs : value.Saved → List ℕ → Type 0
-IsSavedAs v b = MatchOption v.client ((v.established ≡ false) × Saved v.session b) (λ client. SavedTwo client v.established v.session b)
+IsSavedAs saved bytes = MatchOption saved.client ((saved.established ≡ false) × Saved saved.session bytes) (λ client. SavedTwo client saved.established saved.session bytes)
 
 -- ---- Reading
 

@@ -17,12 +17,12 @@ pub record Sending : Type 0 where
 
 -- The invariant of a sender: its identifiers in use are sound (2.3.1), its capacity is 1 to 65,535,
 -- and no message has QoS 0 (4.3.1).
-pub record Keeps (s : Sending) : Type 0 where
-  pub sound : IsSound s.capacity s.book
-  pub able : 0 < s.capacity
-  pub most : s.capacity ≤ 65535
-  pub acknowledged : list_any (λ e. same_qos Q0 e.message.qos) s.book.entries ≡ false
+pub record Keeps (sender : Sending) : Type 0 where
+  pub sound : IsSound sender.capacity sender.book
+  pub able : 0 < sender.capacity
+  pub most : sender.capacity ≤ 65535
+  pub acknowledged : list_any (λ entry. same_qos Q0 entry.message.qos) sender.book.entries ≡ false
 
 -- the numbers of a list are the identifiers of claims (2.3.1)
 abbrev pub AreClaimed : List ℕ → List Claimed → Type 0
-AreClaimed ids cs = (i : ℕ) → list_any (nat_eq i) ids ≡ nat_lt 0 (times i (map (λ c. c.id) cs))
+AreClaimed ids requests = (id : ℕ) → list_any (nat_eq id) ids ≡ nat_lt 0 (times id (map (λ request. request.id) requests))

@@ -8,8 +8,8 @@ use Rattle.mq_flow.specs.Receiver.{ReceiverBook}
 -- a duplicate (4.3.3), or fewer identifiers are stored than the window allows. Without a window
 -- each fits.
 abbrev pub fits_window : Option ℕ → ℕ → ReceiverBook → Bool
-fits_window None i r = true
-fits_window (Some window) i r = FinSet.contains r i || nat_lt (FinSet.len r) window
+fits_window None id book = true
+fits_window (Some window) id book = FinSet.contains book id || nat_lt (FinSet.len book) window
 
 -- All messages that a sender of this capacity has in flight fit the window at once.
 abbrev pub Spans : Option ℕ → ℕ → Type 0

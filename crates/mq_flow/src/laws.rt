@@ -16,14 +16,13 @@ pub fn next_laws()
     ensures { NextLaws }
 {}
 
-/// An acknowledgement that nothing waits for changes nothing, one that something waits for takes
-/// exactly that out of the book (4.3.2, 4.3.3).
+/// An expected acknowledgement removes exactly the acknowledged message or identifier from the
+/// book. A stray one changes nothing (4.3.2, 4.3.3).
 pub fn stray_laws()
     ensures { StrayLaws }
 {}
 
-/// A receiver takes a message of quality of service 2 for a new one exactly until its PUBLISH and
-/// again from its PUBREL (4.3.3).
+/// A QoS 2 identifier is new exactly until its PUBLISH arrives, and again after its PUBREL (4.3.3).
 pub fn receiver_laws()
     ensures { ReceiverLaws }
 {}

@@ -21,7 +21,7 @@ use thiserror::Error;
 #[derive(Clone, Copy, Debug, PartialEq, Eq, Error)]
 pub enum LoadError {
     /// The bytes don't begin with `MQS` and a version that is read.
-    #[error("these bytes are no saved session of a version that is read")]
+    #[error("the bytes are not a saved session of a known version")]
     Version,
     /// They are not the saved form of a session.
     #[error("the saved session is malformed at byte {place}")]
@@ -33,7 +33,7 @@ pub enum LoadError {
     #[error("out of memory")]
     Memory,
     /// The session was saved for another client (3.1.3.1).
-    #[error("the session is that of another client")]
+    #[error("the session belongs to another client")]
     AnotherClient,
     /// A message of the session is over the limit of the end that is to continue with it (2.2.3).
     #[error("a message of the session is over the limit")]
@@ -105,7 +105,7 @@ impl Session {
     /// none is in use.
     pub fn load(alloc: Global, bytes: &[u8]) -> Result<Session, LoadError>
         ensures loads { IfOk result (λ s. Saved s bytes.now × IsSession s) }
-        ensures session { (s : Session) → IsSession s → Saved s bytes.now → MatchResult result (λ t. t ≡ s) (λ e. e ≡ LoadError.Memory) }
+        ensures session { (session : Session) → IsSession session → Saved session bytes.now → MatchResult result (λ loaded. loaded ≡ session) (λ why. why ≡ LoadError.Memory) }
         ensures version { IsErrOf result LoadError.Version ↔ (has_version bytes.now ≡ false) }
         ensures place { Loads result (read_session bytes.now) }
     {

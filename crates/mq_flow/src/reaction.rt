@@ -13,14 +13,14 @@ pub enum Reaction {
     Freed,
     /// The message is acknowledged. A PUBREL with this identifier must be sent.
     Release(PacketId),
-    /// Nothing waits for it, and nothing changes.
+    /// Stray: it acknowledges nothing, and nothing changes.
     Stray,
 }
 
 /// Why a sender refuses a message, or gives no identifier.
 #[derive(Clone, Copy, Debug, PartialEq, Eq, Error)]
 pub enum Refusal {
-    /// As many identifiers are in use as there is room for.
+    /// The maximum number of identifiers is in use.
     #[error("no packet identifier is free")]
     Full,
     /// Memory ran out.

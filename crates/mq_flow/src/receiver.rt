@@ -12,7 +12,7 @@ use std::collections::BTreeSet;
 use std::marker::Model;
 
 /// The receiver's state: the identifiers of QoS 2 messages that were delivered and are not released
-/// yet (4.3.3, method B).
+/// yet (4.3.3, method B). Call `on_publish` for each PUBLISH, then `on_pubrel` for its PUBREL.
 #[derive(Debug, Drop)]
 pub struct Receiver {
     pub(crate) stored: BTreeSet<u16>,
@@ -72,7 +72,6 @@ impl Receiver {
     }
 
     /// Stores an identifier (4.3.3). Returns whether it is new; then its message must be delivered.
-    /// On `Err` nothing changes.
     pub fn store(&mut self, id: PacketId) -> Result<bool, AllocError>
         ensures new { IfOk result (λ b. b ≡ is_new id self.old) }
         ensures book { OnOk result (self.new ≡ on_publish id self.old) }
@@ -85,7 +84,7 @@ impl Receiver {
     /// packet to respond with (4.3.2, 4.3.3). A QoS 1 message is always delivered and answered with
     /// PUBACK. A QoS 2 message is delivered exactly if its identifier is new, and answered with
     /// PUBREC. Errors: `Window` if a QoS 2 message exceeds the receive window, `Memory` if an
-    /// allocation fails; then nothing changes.
+    /// allocation fails.
     pub fn on_publish(
         &mut self,
         id: PacketId,

@@ -24,7 +24,7 @@ impl Session {
     pub fn save(&self, out: &mut Vec<u8>) -> Result<(), AllocError>
         ensures ok { OnOk result (out.new.items ≡ out.old.items ++ saved_form (without_claims self.now)) }
         ensures session { OnOk result (AreWithin 268435455 self.now.sender.book.entries → IsSession (without_claims self.now)) }
-        ensures received { OnOk result ((i : ℕ) → set.contains self.now.receiver i ≡ true → IsIdentifier i) }
+        ensures received { OnOk result ((id : ℕ) → set.contains self.now.receiver id ≡ true → IsIdentifier id) }
         ensures err { OnErr result (out.new.items ≡ out.old.items) }
     {
         let before = out.len();

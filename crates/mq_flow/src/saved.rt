@@ -30,7 +30,7 @@ impl Saved {
     /// allocation fails.
     pub fn load(alloc: Global, bytes: &[u8]) -> Result<Saved, LoadError>
         ensures loads { IfOk result (λ v. IsSavedAs v bytes.now × IsSession v.session) }
-        ensures saved { (v : Saved) → IsSession v.session → IsSavedAs v bytes.now → MatchResult result (λ t. t ≡ v) (λ e. e ≡ LoadError.Memory) }
+        ensures saved { (saved : Saved) → IsSession saved.session → IsSavedAs saved bytes.now → MatchResult result (λ loaded. loaded ≡ saved) (λ why. why ≡ LoadError.Memory) }
         ensures version { IsErrOf result LoadError.Version ↔ ((has_version bytes.now ≡ false) × (has_version_two bytes.now ≡ false)) }
         ensures place { Loads result (read_saved bytes.now) }
     {

@@ -18,6 +18,9 @@ use std::marker::Model;
 /// A sender: the messages that it accepted and that are not acknowledged, the identifiers that are
 /// released, those in use by SUBSCRIBE and UNSUBSCRIBE, and which identifier it gives next (2.3.1,
 /// 4.3.2, 4.3.3).
+///
+/// Call `accept` for each message. Then call `on_puback` for QoS 1, or `on_pubrec` and `on_pubcomp`
+/// for QoS 2, when these packets arrive. Call `resend` after each reconnect.
 #[derive(Debug, Drop)]
 pub struct Sender {
     /// The messages and the released identifiers.
@@ -66,7 +69,7 @@ impl Sender {
         }
     }
 
-    /// Returns the most identifiers that may be in use, at least 1 (2.3.1).
+    /// Returns the maximum number of identifiers in use, at least 1 (2.3.1).
     pub fn capacity(&self) -> u16
         ensures capacity { result ≡ self.now.capacity }
         ensures able { 0 < result }
@@ -127,8 +130,7 @@ impl Sender {
         self.table.get(id).is_some() || self.claimed_ids.contains(&id.get())
     }
 
-    /// Reserves room for `count` messages, which can then be accepted without allocation. On `Err`
-    /// nothing changes.
+    /// Reserves room for `count` messages, which can then be accepted without allocation.
     pub fn reserve(&mut self, count: usize) -> Result<(), AllocError>
         ensures ok { OnOk result (count ≤ self.new.room) }
         ensures more { self.old.room ≤ self.new.room }
@@ -142,7 +144,7 @@ impl Sender {
 
     /// Accepts a message under a free identifier. Must not be called when the capacity is in use.
     /// `sent` says that its PUBLISH is sent at once (4.3.2, 4.3.3). Reserves the memory that its
-    /// acknowledgements need. Does not fail if room was reserved; on `Err` nothing changes.
+    /// acknowledgements need. Does not fail if room was reserved.
     pub fn accept_as(
         &mut self,
         id: PacketId,
@@ -168,7 +170,7 @@ impl Sender {
 
     /// Accepts a message with QoS 1 or 2 under the next free identifier, to be sent later (2.3.1,
     /// 4.3.2, 4.3.3). Errors: `Full` if the capacity is in use; `Memory` if an allocation fails,
-    /// which can't happen if room was reserved. On `Err` nothing changes.
+    /// which can't happen if room was reserved.
     #[tactic(auto, using(crate::proofs::Next::is_next))]
     pub fn accept(&mut self, message: Message) -> Result<PacketId, Refusal>
         requires kept { message.qos ≡ Q0 → ⊥ }
@@ -191,7 +193,7 @@ impl Sender {
     }
 
     /// Assigns a free identifier to a SUBSCRIBE or UNSUBSCRIBE with `count` filters (2.3.1). Must
-    /// not be called when the capacity is in use. On `Err` nothing changes.
+    /// not be called when the capacity is in use.
     pub fn claim_as(&mut self, id: PacketId, kind: Claim, count: usize) -> Result<(), AllocError>
         requires free { IsFree self.old.book id }
         requires room { is_full self.old.capacity self.old.book ≡ false }
@@ -208,8 +210,7 @@ impl Sender {
         Ok(())
     }
 
-    /// Frees an identifier that is in use by a SUBSCRIBE or an UNSUBSCRIBE; nothing changes if it
-    /// isn't (2.3.1).
+    /// Frees an identifier if it is in use by a SUBSCRIBE or an UNSUBSCRIBE (2.3.1).
     pub fn release_id(&mut self, id: PacketId)
         ensures book { self.new.book ≡ release id self.old.book }
         ensures capacity { self.new.capacity ≡ self.old.capacity }

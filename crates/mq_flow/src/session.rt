@@ -10,7 +10,8 @@ use crate::sender::Sender;
 use mq_packet::PacketId;
 use std::alloc::Global;
 
-/// The state of a session (3.1.2.4, 4.1): unfinished messages in both directions.
+/// The state of a session (3.1.2.4, 4.1): unfinished messages in both directions. Call `claim_id`
+/// before a SUBSCRIBE or an UNSUBSCRIBE, and `release_id` when its answer arrives.
 #[derive(Debug, Drop)]
 pub struct Session {
     /// Messages sent by this end.
@@ -57,8 +58,7 @@ impl Session {
         }
     }
 
-    /// Frees an identifier that is in use by a SUBSCRIBE or an UNSUBSCRIBE; nothing changes if it
-    /// isn't (2.3.1).
+    /// Frees an identifier if it is in use by a SUBSCRIBE or an UNSUBSCRIBE (2.3.1).
     pub fn release_id(&mut self, id: PacketId)
         ensures book { self.new.sender.book ≡ release id self.old.sender.book }
         ensures capacity { self.new.sender.capacity ≡ self.old.sender.capacity }

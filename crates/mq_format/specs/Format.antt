@@ -49,10 +49,10 @@ digits_text is_upper layout payload =
 
 -- the time with six decimals
 abbrev pub stamp_text : Moment → List ℕ
-stamp_text m = instant_text m ++ (codes "." ++ (with_zeros 6 (m.nanoseconds / 1000) ++ codes "Z+0000"))
+stamp_text moment = instant_text moment ++ (codes "." ++ (with_zeros 6 (moment.nanoseconds / 1000) ++ codes "Z+0000"))
 
 unfoldable pub first_entry : Moment → List ℕ
-first_entry m = codes "{\"tst\":\"" ++ (stamp_text m ++ codes "\"")
+first_entry moment = codes "{\"tst\":\"" ++ (stamp_text moment ++ codes "\"")
 
 -- a name and a number, or a text
 unfoldable pub number_entry : List ℕ → ℕ → List ℕ
@@ -67,44 +67,44 @@ id_entry None = []
 id_entry (Some id) = number_entry (codes ",\"mid\":") id
 
 unfoldable pub head_text : Envelope → List ℕ
-head_text e =
-    first_entry e.moment
-    ++ (text_entry (codes ",\"topic\":") e.message.now.topic
-    ++ number_entry (codes ",\"qos\":") (qos_number e.message.now.qos))
+head_text envelope =
+    first_entry envelope.moment
+    ++ (text_entry (codes ",\"topic\":") envelope.message.now.topic
+    ++ number_entry (codes ",\"qos\":") (qos_number envelope.message.now.qos))
 
 unfoldable pub middle_text : Envelope → List ℕ
-middle_text e =
-    number_entry (codes ",\"retain\":") (bit e.message.now.retain)
-    ++ (number_entry (codes ",\"payloadlen\":") (length e.message.now.payload) ++ id_entry e.id)
+middle_text envelope =
+    number_entry (codes ",\"retain\":") (bit envelope.message.now.retain)
+    ++ (number_entry (codes ",\"payloadlen\":") (length envelope.message.now.payload) ++ id_entry envelope.id)
 
 unfoldable pub last_entry : List ℕ → List ℕ
 last_entry payload = text_entry (codes ",\"payload\":") payload ++ codes "}"
 
 unfoldable pub json_text : Envelope → List ℕ
-json_text e = head_text e ++ (middle_text e ++ last_entry e.message.now.payload)
+json_text envelope = head_text envelope ++ (middle_text envelope ++ last_entry envelope.message.now.payload)
 
 -- ---- formats
 
 -- what `%` and a letter print
 unfoldable pub field_text : Envelope → Layout → Field → List ℕ
-field_text e layout fields.Percent = codes "%"
-field_text e layout fields.Topic = padded layout 32 (front layout.precision e.message.now.topic)
-field_text e layout fields.Payload = payload_text layout e.message.now.payload
-field_text e layout (fields.Hexadecimal is_upper) = digits_text is_upper layout e.message.now.payload
-field_text e layout fields.Qos = decimal (qos_number e.message.now.qos)
-field_text e layout fields.Retain = decimal (bit e.message.now.retain)
-field_text e layout fields.Length = padded layout (filler layout) (decimal (length e.message.now.payload))
-field_text e layout fields.Id = padded layout (filler layout) (decimal (id_number e.id))
-field_text e layout fields.Time =
-    padded layout 32 (front layout.precision (instant_text e.moment ++ codes "+0000"))
-field_text e layout fields.Unix = unix_text e.moment
-field_text e layout fields.Json = json_text e
-field_text e layout fields.Nothing = []
+field_text envelope layout fields.Percent = codes "%"
+field_text envelope layout fields.Topic = padded layout 32 (front layout.precision envelope.message.now.topic)
+field_text envelope layout fields.Payload = payload_text layout envelope.message.now.payload
+field_text envelope layout (fields.Hexadecimal is_upper) = digits_text is_upper layout envelope.message.now.payload
+field_text envelope layout fields.Qos = decimal (qos_number envelope.message.now.qos)
+field_text envelope layout fields.Retain = decimal (bit envelope.message.now.retain)
+field_text envelope layout fields.Length = padded layout (filler layout) (decimal (length envelope.message.now.payload))
+field_text envelope layout fields.Id = padded layout (filler layout) (decimal (id_number envelope.id))
+field_text envelope layout fields.Time =
+    padded layout 32 (front layout.precision (instant_text envelope.moment ++ codes "+0000"))
+field_text envelope layout fields.Unix = unix_text envelope.moment
+field_text envelope layout fields.Json = json_text envelope
+field_text envelope layout fields.Nothing = []
 
 unfoldable pub piece_text : Envelope → Piece → List ℕ
-piece_text e (pieces.Byte byte) = byte ∷ []
-piece_text e (pieces.Field field layout) = field_text e layout field
-piece_text e (pieces.Time field) = time_text e.moment field
+piece_text envelope (pieces.Byte byte) = byte ∷ []
+piece_text envelope (pieces.Field field layout) = field_text envelope layout field
+piece_text envelope (pieces.Time field) = time_text envelope.moment field
 
 -- ---- lines
 
@@ -125,7 +125,7 @@ verbose_line has_end topic (byte ∷ rest) =
     (topic ++ (codes " " ++ (byte ∷ rest))) ++ line_end has_end
 
 abbrev pub line_text : Style → Bool → Envelope → List ℕ
-line_text styles.Payload has_end e = payload_line has_end e.message.now.payload
-line_text styles.Verbose has_end e = verbose_line has_end e.message.now.topic e.message.now.payload
-line_text (styles.Format format) has_end e =
-    flat_map (piece_text e) format.pieces.items ++ line_end has_end
+line_text styles.Payload has_end envelope = payload_line has_end envelope.message.now.payload
+line_text styles.Verbose has_end envelope = verbose_line has_end envelope.message.now.topic envelope.message.now.payload
+line_text (styles.Format format) has_end envelope =
+    flat_map (piece_text envelope) format.pieces.items ++ line_end has_end

@@ -69,4 +69,4 @@ pub use Rattle.mq_hub.specs.Inside.Subscriptions.{subscribed_acts, unsubscribed_
 pub use Rattle.mq_hub.specs.Inside.TableSteps.{AreHubTables, Proceeds, Spares}
 pub use Rattle.mq_hub.specs.Inside.Tick.{TicksTo, late_of}
 pub use Rattle.mq_hub.specs.Inside.View.{hub_of}
-pub use Rattle.mq_hub.specs.Run.{IsFollowed, IsRefused, IsTraced, acts_in}
+pub use Rattle.mq_hub.specs.Run.{AreCollected, IsFollowed, IsRefused, IsTraced, acts_in}

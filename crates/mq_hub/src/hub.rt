@@ -87,8 +87,8 @@ impl<S: FilterStore> HubOver<S> {
         self.tables.connections.knows(conn)
     }
 
-    /// Returns why [`HubOver::step`] refuses an event whatever memory there is. `None` if it is
-    /// refused only when an allocation fails.
+    /// Returns why [`HubOver::step`] refuses an event for another reason than memory. `None` if it
+    /// is refused only when an allocation fails.
     pub fn refusal(&self, event: &HubEvent) -> Option<HubRefusal>
         ensures { result ≡ event_refusal event.now self.now }
     {

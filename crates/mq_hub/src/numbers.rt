@@ -29,7 +29,7 @@ pub struct SessionCounts {
     pub key: ClientKey,
     /// The number of messages that the session stores (4.3).
     pub stored: usize,
-    /// No packet identifier of the session is free (2.3.1).
+    /// Whether no packet identifier of the session is free (2.3.1).
     pub is_full: bool,
 }
 

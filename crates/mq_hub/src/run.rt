@@ -1,14 +1,14 @@
 //! Runs a broker over a list of events.
 
 ghost use Rattle.std.specs.Prelude.{◌≡◌, ℕ, ◌<◌, ◌⊎◌, [], length, Ok, Err, IfOk, IfErr, IfSome, None};
-ghost use Rattle.mq_hub.specs.Prelude.{flat_map, new_hub, none_received, placed, routed, settled, taken, AreAccounts, IsRun, came_in, handed_from, of_client, IsFollowed, IsRefused, IsTraced, acts_in};
+ghost use Rattle.mq_hub.specs.Prelude.{flat_map, new_hub, none_received, placed, routed, settled, taken, AreAccounts, IsRun, came_in, handed_from, of_client, IsFollowed, IsRefused, IsTraced, acts_in, AreCollected};
 
 use crate::accounts::accounts_of;
 use crate::hub::{Hub, HubOver};
 use mq_end::BoxedList;
 use mq_route::{
-    ClientLog, HubConfig, HubEvent, HubRefusal, HubReply, HubTrace, WhenFull, routing_laws,
-    taking_laws,
+    ClientLog, HubConfig, HubEvent, HubRefusal, HubReply, HubTrace, WhenFull, output_laws,
+    routing_laws, taking_laws,
 };
 use mq_topic::{FilterStore, TrieStore};
 use std::alloc::{AllocError, Global};
@@ -83,8 +83,10 @@ pub fn hub_run_over<S: FilterStore + Drop>(
         → IfOk result (λ r. (c : ℕ) → placed c (acts_in r.1) ≡ routed c (acts_in r.1)) }
     ensures taken { IfOk result (λ r. (run : IsRun config events.now r.0 r.1) (c : ℕ)
         → taken c (acts_in r.1) ≡ handed_from none_received (of_client c (came_in run.episodes))) }
+    ensures collected { IfOk result (λ r. (run : IsRun config events.now r.0 r.1) → AreCollected config run.episodes r.0) }
     ensures err { IfErr result (λ why. (why ≡ HubRefusal.Memory) ⊎ IsRefused (new_hub config) events.now why) }
 {
+    output_laws();
     routing_laws();
     taking_laws();
     let mut hub = HubOver::with_store(alloc, config, store);
@@ -106,6 +108,7 @@ pub fn hub_run(
         → IfOk result (λ r. (c : ℕ) → placed c (acts_in r.1) ≡ routed c (acts_in r.1)) }
     ensures taken { IfOk result (λ r. (run : IsRun config events.now r.0 r.1) (c : ℕ)
         → taken c (acts_in r.1) ≡ handed_from none_received (of_client c (came_in run.episodes))) }
+    ensures collected { IfOk result (λ r. (run : IsRun config events.now r.0 r.1) → AreCollected config run.episodes r.0) }
     ensures err { IfErr result (λ why. (why ≡ HubRefusal.Memory) ⊎ IsRefused (new_hub config) events.now why) }
 {
     hub_run_over(alloc, config, TrieStore::new(alloc), events)

@@ -36,11 +36,11 @@ impl<S: FilterStore> HubOver<S> {
         }
     }
 
-    /// Handles the front of the bytes that come on a connection (4.2), up to the packet with which
-    /// the step reaches `most_acts` acts, or all of them. Returns the reply and the number of bytes
-    /// used; the caller passes the others in a later call. At least one packet is handled, and at
-    /// least one byte is used of a piece that is not empty. The piece is not copied. Bytes of a
-    /// closed connection are dropped.
+    /// Handles the front of the bytes that arrive on a connection (4.2): all of them, or up to the
+    /// packet with which the step reaches `most_acts` acts. Returns the reply and the number of
+    /// bytes used; the caller passes the others in a later call. At least one packet is handled,
+    /// and at least one byte is used of a piece that is not empty. The piece is not copied. Bytes
+    /// of a closed connection are dropped.
     ///
     /// Errors as [`HubOver::step`] with `Bytes`.
     pub fn step_some(

@@ -7,37 +7,39 @@ use Rattle.mq_log.specs.declared.disk.DiskError.TheVariants.{Failed, Full}
 abbrev pub Holds : List ℕ → ℕ → List ℕ → List ℕ → Type 0
 Holds old at bytes new = new ≡ take at old ++ bytes ++ drop (at + length bytes) old
 
--- A crash during a write of n bytes, or before the next sync, leaves any bytes in the range. The
--- bytes before and behind it are unchanged. The file ends anywhere from the old end to the new one.
-pub record Torn (at n : ℕ) (old new : List ℕ) : Type 0 where
+-- A crash during a write of `size` bytes, or before the next sync, leaves any bytes in the range.
+-- The bytes before and behind it are unchanged. The file ends anywhere from the old end to the new
+-- one.
+pub record Torn (at size : ℕ) (old new : List ℕ) : Type 0 where
   pub before : take at new ≡ take at old
-  pub after : drop (at + n) new ≡ drop (at + n) old
+  pub after : drop (at + size) new ≡ drop (at + size) old
   pub no_shorter : length old ≤ length new
-  pub no_longer : length new ≤ max (length old) (at + n)
+  pub no_longer : length new ≤ max (length old) (at + size)
 
 -- each outcome of a crash after the call is an outcome before it, changed by this step
 abbrev pub Follows : (List ℕ → List ℕ → Type 0)
     → (List ℕ → Type 0) → (List ℕ → Type 0) → Type 0
-Follows step old new = (c : List ℕ) → new c → (d : List ℕ) × old d × step d c
+Follows step old new = (content : List ℕ) → new content → (earlier : List ℕ) × old earlier × step earlier content
 
 -- a crash leaves exactly this content
 abbrev pub Only : List ℕ → (List ℕ → Type 0) → Type 0
-Only file outcomes = (c : List ℕ) → outcomes c → c ≡ file
+Only file outcomes = (content : List ℕ) → outcomes content → content ≡ file
 
--- Time advances: the outcomes of a crash since t are the earlier outcomes and the present ones.
+-- Time advances: the outcomes of a crash since `time` are the earlier outcomes and the present
+-- ones.
 pub record Elapses (before now : ℕ) (past since : ℕ → List ℕ → Type 0)
     (may_leave : List ℕ → Type 0) : Type 0 where
   pub later : before ≤ now
-  pub nothing_else : (t : ℕ) (c : List ℕ) → t ≤ before → since t c → past t c ⊎ may_leave c
-  pub keeps : (t : ℕ) (c : List ℕ) → t ≤ before → past t c → since t c
+  pub nothing_else : (time : ℕ) (content : List ℕ) → time ≤ before → since time content → past time content ⊎ may_leave content
+  pub keeps : (time : ℕ) (content : List ℕ) → time ≤ before → past time content → since time content
 
 -- A crash at any time from the old state to the new one leaves a content that has P.
 pub record LeavesOnly {D : Type 0} (clock : D → ℕ) (left_since : D → ℕ → List ℕ → Type 0)
     (old new : D) (P : List ℕ → Type 0) : Type 0 where
   pub later : clock old ≤ clock new
-  pub each : (c : List ℕ) → left_since new (clock old) c → P c
+  pub each : (content : List ℕ) → left_since new (clock old) content → P content
   -- for a caller that began earlier
-  pub before : (t : ℕ) (c : List ℕ) → t ≤ clock old → left_since new t c → left_since old t c ⊎ P c
+  pub before : (time : ℕ) (content : List ℕ) → time ≤ clock old → left_since new time content → left_since old time content ⊎ P content
 
 -- `Failed` is returned only if the disk has failed during the call, and `Full` never
 pub record HasCause {T : Type 0} (before now : ℕ) (result : Result T DiskError) : Type 0 where

@@ -5,7 +5,7 @@ use Rattle.mq_log.specs.Checksum.{checksum}
 
 -- each is a byte
 abbrev pub AreBytes : List ℕ → Type 0
-AreBytes bytes = (i : ℕ) → slice_index bytes i < 256
+AreBytes bytes = (index : ℕ) → slice_index bytes index < 256
 
 pub record JournalLaws : Type 0 where
   -- the file of these entries holds these entries, and nothing but the closed gate follows them
@@ -14,5 +14,5 @@ pub record JournalLaws : Type 0 where
   -- a file is the blocks of its entries, and then the rest
   pub parts : (bytes : List ℕ) → AreBytes bytes → bytes ≡ blocks (entries bytes) ++ rest bytes
   -- an entry with one changed byte has another checksum
-  pub one_byte : (front back : List ℕ) (x y : ℕ) → x < 256 → y < 256 → x ≢ y
-      → checksum (front ++ x ∷ back) ≢ checksum (front ++ y ∷ back)
+  pub one_byte : (front back : List ℕ) (byte other : ℕ) → byte < 256 → other < 256 → byte ≢ other
+      → checksum (front ++ byte ∷ back) ≢ checksum (front ++ other ∷ back)

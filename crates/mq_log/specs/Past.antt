@@ -8,12 +8,12 @@ abbrev pub HadBeen : List (Vec ℕ Global) → List ℕ → Type 0
 HadBeen [] bytes = ⊥
 HadBeen (content ∷ past) bytes = (bytes ≡ content.items) ⊎ HadBeen past bytes
 
-none_left : (past : List (Vec ℕ Global)) (c : List ℕ) → HadBeen (drop (length past) past) c → ⊥
-none_left [] c had = had
-none_left (content ∷ past) c had = none_left past c had
+none_left : (past : List (Vec ℕ Global)) (left : List ℕ) → HadBeen (drop (length past) past) left → ⊥
+none_left [] left had = had
+none_left (content ∷ past) left had = none_left past left had
 
 -- since the last of them, the content is the present one
-pub only_bytes : (past : List (Vec ℕ Global)) (bytes c : List ℕ)
-    → (c ≡ bytes) ⊎ HadBeen (drop (length past) past) c → c ≡ bytes
-only_bytes past bytes c (inl now) = now
-only_bytes past bytes c (inr had) = absurd (none_left past c had)
+pub only_bytes : (past : List (Vec ℕ Global)) (bytes left : List ℕ)
+    → (left ≡ bytes) ⊎ HadBeen (drop (length past) past) left → left ≡ bytes
+only_bytes past bytes left (inl now) = now
+only_bytes past bytes left (inr had) = absurd (none_left past left had)

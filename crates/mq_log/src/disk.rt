@@ -64,7 +64,8 @@ pub trait Disk {
     fn read(&mut self, alloc: Global) -> Result<Vec<u8>, DiskError>
         ensures bytes { IfOk result (λ bytes. bytes.items ≡ seen self.old) }
         ensures seen { seen self.new ≡ seen self.old }
-        ensures crash { (c : List ℕ) → may_leave self.new c → may_leave self.old c }
+        ensures crash { (content : List ℕ)
+            → may_leave self.new content → may_leave self.old content }
         ensures time { Elapses (clock self.old) (clock self.new)
             (left_since self.old) (left_since self.new) (may_leave self.new) }
         ensures cause { HasCause (faults self.old) (faults self.new) result };
@@ -83,16 +84,17 @@ pub trait Disk {
     fn sync(&mut self) -> Result<(), DiskError>
         ensures durable { OnOk result (Only (seen self.old) (may_leave self.new)) }
         ensures seen { seen self.new ≡ seen self.old }
-        ensures crash { (c : List ℕ) → may_leave self.new c → may_leave self.old c }
+        ensures crash { (content : List ℕ)
+            → may_leave self.new content → may_leave self.old content }
         ensures time { Elapses (clock self.old) (clock self.new)
             (left_since self.old) (left_since self.new) (may_leave self.new) }
         ensures cause { HasCause (faults self.old) (faults self.new) result };
 
     /// A crash now is a crash since any earlier time.
-    ghost counts_now: { (file : Self) (t : ℕ) (c : List ℕ)
-        → t ≤ clock file → may_leave file c → left_since file t c };
+    ghost counts_now: { (file : Self) (time : ℕ) (content : List ℕ)
+        → time ≤ clock file → may_leave file content → left_since file time content };
 
     /// A crash since the present time is a crash now.
-    ghost only_now: { (file : Self) (c : List ℕ)
-        → left_since file (clock file) c → may_leave file c };
+    ghost only_now: { (file : Self) (content : List ℕ)
+        → left_since file (clock file) content → may_leave file content };
 }

@@ -36,8 +36,8 @@ account_step conn (Collect other) reply account =
 -- the account of a connection after further steps
 abbrev pub account_from : Conn → List Episode → Account → Account
 account_from conn [] account = account
-account_from conn (e ∷ es) account =
-    account_from conn es (account_step conn e.event e.reply account)
+account_from conn (episode ∷ episodes) account =
+    account_from conn episodes (account_step conn episode.event episode.reply account)
 
 abbrev pub account_of : Conn → List Episode → Account
 account_of conn made = account_from conn made unopened

@@ -57,12 +57,12 @@ places_read (Some step ∷ calls) = places_in step.event ++ places_read calls
 -- each number satisfies it
 abbrev pub Each : (ℕ → Type 0) → List ℕ → Type 0
 Each P [] = Unit {0}
-Each P (n ∷ ns) = P n × Each P ns
+Each P (number ∷ numbers) = P number × Each P numbers
 
 -- no number is greater than a later one
 abbrev pub IsAscending : List ℕ → Type 0
 IsAscending [] = Unit {0}
-IsAscending (n ∷ ns) = Each (λ later. n ≤ later) ns × IsAscending ns
+IsAscending (number ∷ numbers) = Each (λ later. number ≤ later) numbers × IsAscending numbers
 
 -- The number of connections that were opened, and for each place the number of its connection among
 -- them, which is its age: an older connection has a smaller one.

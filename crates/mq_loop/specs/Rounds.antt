@@ -60,7 +60,7 @@ IsWritten most waiting output =
 abbrev pub waiting_at : ℕ → ServedState → List ℕ
 waiting_at place served = waiting_on (name_at place) served.hub.connections
 
--- the same of the connection at a place, if there is one
+-- the same for the connection at a place, if there is one
 abbrev pub IsWrittenAt : ℕ → ℕ → ServedState → Type 0
 IsWrittenAt most place served = IfSome (output_at place served.lines) (IsWritten most (waiting_at place served))
 
@@ -236,7 +236,7 @@ IsEmpty flags = (place : ℕ) → is_in place flags ≡ false
 abbrev pub AreEnded : WatchedState → Type 0
 AreEnded watched = IsEmpty watched.over ⊎ (watched.failed ≡ true)
 
--- the number of ends that are left, at most: a bound on the connections and on the places that are
+-- the maximum number of remaining ends: a bound on the connections and on the places that are
 -- over
 abbrev pub ends_left : WatchedState → ℕ
 ends_left watched = connections_in watched.served.lines * suc (length watched.over) + count_in watched.over
@@ -281,7 +281,7 @@ abbrev pub AgesStay : {O : Type 0} → LoopState O → LoopState O → Type 0
 AgesStay old new =
     (new.ages.opened ≡ old.ages.opened) × ((place : ℕ) → age_at place new.ages ≡ age_at place old.ages)
 
--- A connection was opened at a place: it is the newest, and the others are as they were.
+-- A connection was opened at a place: it is the newest, and the others are unchanged.
 pub record IsOpened {O : Type 0} (place : ℕ) (old new : LoopState O) : Type 0 where
   pub exists : exists_at place new.watched.served.lines ≡ true
   pub opened : new.ages.opened ≡ old.ages.opened + 1

@@ -8,36 +8,37 @@ use Rattle.mq_loop.specs.declared.socket.WriteOutcome.TheVariants as writes
 
 -- at most this number of bytes were read
 abbrev pub IsWithin : ℕ → ReadOutcome → Type 0
-IsWithin most (Bytes n) = n ≤ most
+IsWithin most (Bytes count) = count ≤ most
 IsWithin most Nothing = Unit {0}
 IsWithin most End = Unit {0}
 IsWithin most Failed = Unit {0}
 
 -- nothing more comes from a socket, or it failed
 abbrev pub finishes : ReadOutcome → Bool
-finishes (Bytes n) = false
+finishes (Bytes count) = false
 finishes Nothing = false
 finishes End = true
 finishes Failed = true
 
 -- at most this number of bytes were written
 abbrev pub IsTaken : ℕ → WriteOutcome → Type 0
-IsTaken most (writes.Bytes n) = n ≤ most
+IsTaken most (writes.Bytes count) = count ≤ most
 IsTaken most writes.Nothing = Unit {0}
 IsTaken most writes.Failed = Unit {0}
 
--- A read: `Bytes n` means that n more bytes were read, and that they are in the buffer. Otherwise
--- none was.
+-- A read: `Bytes count` means that this number of bytes was read, and that they are in the buffer.
+-- Otherwise none was.
 abbrev pub ComesIn : Option (List ℕ) → Option (List ℕ) → List ℕ → ReadOutcome → Type 0
-ComesIn old new buffer (Bytes n) = (n ≤ length buffer) × (new ≡ append_known old (take n buffer))
+ComesIn old new buffer (Bytes count) = (count ≤ length buffer) × (new ≡ append_known old (take count buffer))
 ComesIn old new buffer Nothing = new ≡ old
 ComesIn old new buffer End = new ≡ old
 ComesIn old new buffer Failed = new ≡ old
 
--- A write: `Bytes n` means that the first n of these bytes were written. Otherwise none was.
+-- A write: `Bytes count` means that this number of bytes was written from the front. Otherwise none
+-- was.
 abbrev pub GoesOut : Option (List ℕ) → Option (List ℕ) → List ℕ → WriteOutcome → Type 0
-GoesOut old new bytes (writes.Bytes n) =
-    (n ≤ length bytes) × (new ≡ append_known old (take n bytes))
+GoesOut old new bytes (writes.Bytes count) =
+    (count ≤ length bytes) × (new ≡ append_known old (take count bytes))
 GoesOut old new bytes writes.Nothing = new ≡ old
 GoesOut old new bytes writes.Failed = new ≡ old
 

@@ -47,6 +47,9 @@ pub enum Given {
 ///
 /// The connection at place p has the name of worker 0 and number p. Its place may be used again
 /// after it has ended.
+///
+/// Order of calls: `add_place` and `open` for each new connection; in each round `read`, `commit`
+/// and `give`; `end` for a connection that must be ended.
 #[derive(Drop)]
 pub struct Served<B: Broker, S: Socket> {
     alloc: Global,

@@ -1,4 +1,4 @@
--- What the clients of a loopback file do over their connections.
+-- The runs of the clients of a loopback file over their connections.
 use Rattle.std.specs.Prelude.{◌≡◌, ◌≤◌, ℕ, Bool, None, false, true, List, [], ◌∷◌, ◌++◌, length, map}
 use Rattle.std.specs.List.{flat_map}
 use Rattle.mq_decode.specs.Limits.{strict}
@@ -24,73 +24,73 @@ client_config name =
     record { id = name; keep_alive = 0; will = None; login = None; limits = strict 1048576; capacity = 100; window = None }
 
 -- a client without a session
-pub record IsNewClient (name : List ℕ) (c : ClientState) : Type 0 where
-  pub config : c.config ≡ client_config name
-  pub end : c.link.end ≡ blank_end None
-  pub capacity : c.link.capacity ≡ 100
+pub record IsNewClient (name : List ℕ) (client : ClientState) : Type 0 where
+  pub config : client.config ≡ client_config name
+  pub end : client.link.end ≡ blank_end None
+  pub capacity : client.link.capacity ≡ 100
 
 -- ---- collectors
 
 -- The end received packets, and the messages that it delivered were appended, in their order.
-pub record Receives (a b : Moment) (old new : List Message) : Type 0 where
+pub record Receives (before after : Moment) (old new : List Message) : Type 0 where
   pub told : List Happening
-  pub went : Went a b [] told []
+  pub went : Went before after [] told []
   pub kept : new ≡ old ++ flat_map handed told
 
 -- the subscription that a collector requests (3.8.3)
 abbrev pub request_of : Collector → Request
-request_of c = record { filter = c.filter; qos = c.qos }
+request_of collector = record { filter = collector.filter; qos = collector.qos }
 
 -- A connection with a clean session began, and the subscription was requested once and granted. The
 -- messages that were delivered before were appended.
-pub record Subscribed (a b : Moment) (c : Collector) (old new : List Message) : Type 0 where
+pub record Subscribed (before after : Moment) (collector : Collector) (old new : List Message) : Type 0 where
   pub told : List Happening
-  pub went : Went a b (Opening true ∷ Subscription (request_of c ∷ []) ∷ []) told []
+  pub went : Went before after (Opening true ∷ Subscription (request_of collector ∷ []) ∷ []) told []
   pub answered : IsAnswered true told
   pub kept : new ≡ old ++ flat_map handed told
 
 -- The client received messages and then left.
-pub record Collected (a b : Moment) (old new : List Message) : Type 0 where
+pub record Collected (before after : Moment) (old new : List Message) : Type 0 where
   pub last : Moment
-  pub receives : Receives a last old new
-  pub leaves : Leaves last b
+  pub receives : Receives before last old new
+  pub leaves : Leaves last after
 
 -- ---- publishers
 
 -- the message of a payload
 abbrev pub message_of : Publisher → List ℕ → Message
-message_of p payload = record { topic = p.topic; payload = payload; qos = p.qos; retain = false }
+message_of publisher payload = record { topic = publisher.topic; payload = payload; qos = publisher.qos; retain = false }
 
 -- the messages of all payloads, in their order
 abbrev pub asks_of : Publisher → List Ask
-asks_of p = map (λ payload. Publication (message_of p payload)) p.payloads
+asks_of publisher = map (λ payload. Publication (message_of publisher payload)) publisher.payloads
 
 -- A connection with a clean session began, and all payloads were published, in their order, and
 -- acknowledged. Then the client left.
-pub record Published (a b : Moment) (p : Publisher) : Type 0 where
+pub record Published (before after : Moment) (publisher : Publisher) : Type 0 where
   pub last : Moment
-  pub asked : AskedAll a last (Opening true ∷ asks_of p)
-  pub leaves : Leaves last b
+  pub asked : AskedAll before last (Opening true ∷ asks_of publisher)
+  pub leaves : Leaves last after
 
 -- ---- clients
 
 -- A client did what its role says, and these messages were delivered to it.
 abbrev pub IsRoleDone : Role → Moment → Moment → List Message → Type 0
-IsRoleDone (roles.Collector c) a b messages =
-    (m : Moment) × (first : List Message) × Subscribed a m c [] first × Collected m b first messages
-    × (c.count ≤ length messages)
-IsRoleDone (roles.Publisher p) a b messages = (messages ≡ []) × Published a b p
+IsRoleDone (roles.Collector collector) before after messages =
+    (subscribed : Moment) × (first : List Message) × Subscribed before subscribed collector [] first
+    × Collected subscribed after first messages × (collector.count ≤ length messages)
+IsRoleDone (roles.Publisher publisher) before after messages = (messages ≡ []) × Published before after publisher
 
 -- A new client with the identifier of this one did what its role says, and these messages were
 -- delivered to it.
 abbrev pub IsClientRun : Client → List Message → Type 0
 IsClientRun client messages =
-    (a : Moment) × (b : Moment) × IsNewClient client.name a.client
-    × IsRoleDone client.role a b messages
+    (before : Moment) × (after : Moment) × IsNewClient client.name before.client
+    × IsRoleDone client.role before after messages
 
 abbrev pub is_collector_role : Role → Bool
-is_collector_role (roles.Collector c) = true
-is_collector_role (roles.Publisher p) = false
+is_collector_role (roles.Collector collector) = true
+is_collector_role (roles.Publisher publisher) = false
 
 abbrev pub is_collector : Client → Bool
 is_collector client = is_collector_role client.role

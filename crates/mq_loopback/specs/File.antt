@@ -16,20 +16,20 @@ use Rattle.mq_loopback.specs.declared.client.Role.TheVariants as roles
 -- ---- lines
 
 -- how many messages, a number of 32 bits
-pub record IsCount (n : ℕ) (word : List ℕ) : Type 0 where
-  pub number : IsNumber n word
-  pub bound : n < 2 ^ 32
+pub record IsCount (count : ℕ) (word : List ℕ) : Type 0 where
+  pub number : IsNumber count word
+  pub bound : count < 2 ^ 32
 
 -- `collect`, a client identifier (3.1.3.1) and a topic filter as they are printed, a quality of
 -- service, and how many messages
-pub record IsCollectorLine (name : List ℕ) (c : Collector) (words : List (List ℕ)) : Type 0 where
+pub record IsCollectorLine (name : List ℕ) (collector : Collector) (words : List (List ℕ)) : Type 0 where
   pub qos : List ℕ
   pub count : List ℕ
   pub named : IsText name
-  pub filter : IsTopicFilter c.filter
-  pub quality : IsNumber (qos_number c.qos) qos
-  pub least : IsCount c.count count
-  pub words_are : words ≡ codes "collect" ∷ escaped name ∷ escaped c.filter ∷ qos ∷ count ∷ []
+  pub filter : IsTopicFilter collector.filter
+  pub quality : IsNumber (qos_number collector.qos) qos
+  pub least : IsCount collector.count count
+  pub words_are : words ≡ codes "collect" ∷ escaped name ∷ escaped collector.filter ∷ qos ∷ count ∷ []
 
 -- bytes that may be a payload (3.3.3)
 pub record IsPayload (bytes : List ℕ) : Type 0 where
@@ -44,22 +44,22 @@ pub record ArePayloads (payloads : List (List ℕ)) (words : List (List ℕ)) : 
 
 -- `publish`, a client identifier and a topic name as they are printed, a quality of service, and
 -- one payload or more
-pub record IsPublisherLine (name : List ℕ) (p : Publisher) (words : List (List ℕ)) : Type 0 where
+pub record IsPublisherLine (name : List ℕ) (publisher : Publisher) (words : List (List ℕ)) : Type 0 where
   pub qos : List ℕ
   pub named : IsText name
-  pub topic : IsTopicName p.topic
-  pub quality : IsNumber (qos_number p.qos) qos
+  pub topic : IsTopicName publisher.topic
+  pub quality : IsNumber (qos_number publisher.qos) qos
   pub last : List (List ℕ)
-  pub payloads : ArePayloads p.payloads last
-  pub words_are : words ≡ codes "publish" ∷ escaped name ∷ escaped p.topic ∷ qos ∷ last
+  pub payloads : ArePayloads publisher.payloads last
+  pub words_are : words ≡ codes "publish" ∷ escaped name ∷ escaped publisher.topic ∷ qos ∷ last
 
 -- the words say that a client of this name has this role
 abbrev pub SaysOf : List ℕ → Role → List (List ℕ) → Type 0
-SaysOf name (roles.Collector c) words = IsCollectorLine name c words
-SaysOf name (roles.Publisher p) words = IsPublisherLine name p words
+SaysOf name (roles.Collector collector) words = IsCollectorLine name collector words
+SaysOf name (roles.Publisher publisher) words = IsPublisherLine name publisher words
 
 abbrev pub Says : Client → List (List ℕ) → Type 0
-Says c words = SaysOf c.name c.role words
+Says client words = SaysOf client.name client.role words
 
 -- ---- files
 
@@ -70,14 +70,14 @@ IsFresh name clients = AllByRecursion (λ c. c.name ≢ name) clients
 -- no two of the clients have the same name
 abbrev pub AreApart : List Client → Type 0
 AreApart [] = ⊤
-AreApart (c ∷ clients) = IsFresh c.name clients × AreApart clients
+AreApart (client ∷ clients) = IsFresh client.name clients × AreApart clients
 
 -- a line says a client that may come after these: there are fewer than 64, and none of them has its
 -- name
-pub record Joins (clients : List Client) (c : Client) (line : List ℕ) : Type 0 where
+pub record Joins (clients : List Client) (client : Client) (line : List ℕ) : Type 0 where
   pub room : length clients < 64
-  pub fresh : IsFresh c.name clients
-  pub says : Says c (words_of line)
+  pub fresh : IsFresh client.name clients
+  pub says : Says client (words_of line)
 
 -- each line says a client; no two have the same name, and there are at most 64
 pub record AreClients (clients : List Client) (lines : List (List ℕ)) : Type 0 where
@@ -85,13 +85,13 @@ pub record AreClients (clients : List Client) (lines : List (List ℕ)) : Type 0
   pub apart : AreApart clients
   pub few : length clients ≤ 64
 
--- the lines before this one, counted from 1, are clients, and with it they are none
-pub record IsBadLine (lines : List (List ℕ)) (n : ℕ) : Type 0 where
+-- the lines before this one, counted from 1, are clients, and with this line they are not
+pub record IsBadLine (lines : List (List ℕ)) (number : ℕ) : Type 0 where
   pub clients : List Client
   pub front : List (List ℕ)
   pub line : List ℕ
   pub others : List (List ℕ)
   pub lines_are : lines ≡ front ++ line ∷ others
-  pub place : n ≡ length front + 1
+  pub place : number ≡ length front + 1
   pub before : AreClients clients front
   pub bad : (more : List Client) → ¬ AreClients more (front ++ line ∷ [])

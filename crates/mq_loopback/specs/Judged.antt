@@ -45,6 +45,6 @@ abbrev pub AllStand : Sealed → List (Vec Receipt Global) → Type 0
 AllStand journal receipts = AllByRecursion (λ r. Stand journal.first journal.entries 0 r.items) receipts
 
 -- The verdict on a journal and on the receipts of workers.
-pub record IsVerdict (config : HubConfig) (journal : Sealed) (receipts : List (Vec Receipt Global)) (v : Verdict) : Type 0 where
-  pub replayed : IsReplayed config journal.entries v.is_equal
-  pub audited : IsTrue v.is_audited ↔ AllStand journal receipts
+pub record IsVerdict (config : HubConfig) (journal : Sealed) (receipts : List (Vec Receipt Global)) (verdict : Verdict) : Type 0 where
+  pub replayed : IsReplayed config journal.entries verdict.is_equal
+  pub audited : IsTrue verdict.is_audited ↔ AllStand journal receipts

@@ -6,8 +6,8 @@ use Rattle.mq_loopback.specs.File.{AreClients, IsBadLine}
 -- The laws of loopback files.
 pub record FileLaws : Type 0 where
   -- lines are at most one list of clients
-  pub one_list : (lines : List (List ℕ)) (a b : List Client) → AreClients a lines → AreClients b lines → a ≡ b
+  pub one_list : (lines : List (List ℕ)) (first second : List Client) → AreClients first lines → AreClients second lines → first ≡ second
   -- lines that are clients have no bad line
-  pub not_both : (lines : List (List ℕ)) (clients : List Client) (n : ℕ) → AreClients clients lines → ¬ IsBadLine lines n
+  pub not_both : (lines : List (List ℕ)) (clients : List Client) (line : ℕ) → AreClients clients lines → ¬ IsBadLine lines line
   -- there is at most one
-  pub one_bad : (lines : List (List ℕ)) (m n : ℕ) → IsBadLine lines m → IsBadLine lines n → m ≡ n
+  pub one_bad : (lines : List (List ℕ)) (other line : ℕ) → IsBadLine lines other → IsBadLine lines line → other ≡ line

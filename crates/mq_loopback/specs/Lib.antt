@@ -1,6 +1,6 @@
-pub mod Barrier
 pub mod Clients
 pub mod File
+pub mod Inside
 pub mod Judged
 pub mod Laws
 pub mod Ordered

@@ -13,7 +13,7 @@ pub use Rattle.mq_schedule.specs.Parts.{Finds}
 pub use Rattle.mq_schedule.specs.Schedule.{lines_of, words_of}
 pub use Rattle.mq_topic.specs.Topic.{IsTopicFilter}
 pub use Rattle.mq_wire.specs.Text.{IsText}
-pub use Rattle.mq_loopback.specs.Barrier.{IsPending, first_fault, may_start}
+pub use Rattle.mq_loopback.specs.Inside.Barrier.{IsPending, first_fault, may_start}
 pub use Rattle.mq_loopback.specs.Clients.{Collected, IsNewClient, Published, Receives, Subscribed, asks_of, message_of, IsClientRun, IsRoleDone, is_collector}
 pub use Rattle.mq_loopback.specs.File.{AreClients, ArePayloads, IsBadLine, IsCount, IsFresh, Joins, Says}
 pub use Rattle.mq_loopback.specs.Judged.{AllStand, IsReplayed, IsVerdict, events_in, replies_in}

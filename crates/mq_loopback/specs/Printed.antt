@@ -17,18 +17,18 @@ use Rattle.mq_loopback.specs.declared.rig.RunError.TheVariants as ends
 
 -- a message that a client collected: the client's name, the topic, the payload
 abbrev pub message_line : List ℕ → Message → List ℕ
-message_line name m = escaped name ++ (codes " " ++ (escaped m.topic ++ (codes " " ++ (bytes_word m.payload ++ codes "\n"))))
+message_line name message = escaped name ++ (codes " " ++ (escaped message.topic ++ (codes " " ++ (bytes_word message.payload ++ codes "\n"))))
 
 -- the messages that a client of this name and role collected
 abbrev pub role_lines : List ℕ → Role → List Message → List ℕ
-role_lines name (roles.Collector c) messages = flat_map (message_line name) messages
-role_lines name (roles.Publisher p) messages = []
+role_lines name (roles.Collector collector) messages = flat_map (message_line name) messages
+role_lines name (roles.Publisher publisher) messages = []
 
 -- The messages that each client collected, in the order of the clients.
 abbrev pub collected_lines : List Client → List (List Message) → List ℕ
 collected_lines [] lists = []
-collected_lines (c ∷ clients) [] = []
-collected_lines (c ∷ clients) (messages ∷ lists) = role_lines c.name c.role messages ++ collected_lines clients lists
+collected_lines (client ∷ clients) [] = []
+collected_lines (client ∷ clients) (messages ∷ lists) = role_lines client.name client.role messages ++ collected_lines clients lists
 
 abbrev pub replay_line : Bool → List ℕ
 replay_line equal = if equal then codes "replay equal\n" else codes "replay differs\n"
@@ -37,11 +37,11 @@ abbrev pub audit_line : Bool → List ℕ
 audit_line audited = if audited then codes "audit yes\n" else codes "audit no\n"
 
 abbrev pub verdict_lines : Verdict → List ℕ
-verdict_lines v = replay_line v.is_equal ++ audit_line v.is_audited
+verdict_lines verdict = replay_line verdict.is_equal ++ audit_line verdict.is_audited
 
 -- 0 if both verdicts are positive.
 abbrev pub verdict_status : Verdict → ℕ
-verdict_status v = if v.is_equal && v.is_audited then 0 else 1
+verdict_status verdict = if verdict.is_equal && verdict.is_audited then 0 else 1
 
 -- why clients and broker ended before all was done, and the status then
 abbrev pub play_end_line : RunError → List ℕ
@@ -54,7 +54,7 @@ play_end_status (ends.Client halt) = halt_status halt
 
 -- the first line with which a text is not a loopback file
 abbrev pub bad_line : ℕ → List ℕ
-bad_line n = codes "line " ++ (decimal n ++ codes ": not a client\n")
+bad_line number = codes "line " ++ (decimal number ++ codes ": not a client\n")
 
 abbrev pub unread_line : List ℕ
 unread_line = codes "file not read\n"

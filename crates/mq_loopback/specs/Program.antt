@@ -55,7 +55,7 @@ AreRun file status text = (clients : List Client) × AreClients clients (lines_o
 
 -- with a line the text is none of clients any more
 abbrev pub IsRefusedAt : List ℕ → ℕ → List ℕ → Type 0
-IsRefusedAt file status text = (n : ℕ) × IsBadLine (lines_of file) n × (status ≡ 2) × (text ≡ bad_line n)
+IsRefusedAt file status text = (number : ℕ) × IsBadLine (lines_of file) number × (status ≡ 2) × (text ≡ bad_line number)
 
 -- `loopback` with this text; memory may run out before it is read
 abbrev pub IsLoopback : List ℕ → ℕ → List ℕ → Type 0

@@ -3,6 +3,9 @@
 //! A file has a line for each client. The clients run in threads, with one broker worker for each.
 //! Then the program prints the collected messages, whether the journal of the broker replays, and
 //! whether the receipts of each worker are in it.
+//!
+//! A call that may allocate says so in its return type; other calls never allocate.
+//! On `Err` the receiver is unchanged unless stated otherwise.
 #![tactic(auto)]
 
 mod client;

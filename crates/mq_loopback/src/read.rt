@@ -12,13 +12,13 @@ use mq_wire::{Text, TextFault};
 use std::alloc::{AllocError, Global};
 use thiserror::Error;
 
-/// How many clients a file has at most.
+/// The maximum number of clients of a file.
 const MOST_CLIENTS: usize = 64;
 
 /// Why a text is not a loopback file.
 #[derive(Clone, Copy, Debug, PartialEq, Eq, Error)]
 pub enum ClientsFault {
-    /// With this line, counted from 1, it is none any more.
+    /// The line with this number, counted from 1, is not a client.
     #[error("line {0}: not a client")]
     Line(usize),
     /// Memory ran out.
@@ -55,7 +55,7 @@ fn no_text(fault: TextFault) -> Result<Option<Text>, AllocError>
     }
 }
 
-// The same of a topic filter.
+// The same for a topic filter.
 fn no_filter(fault: TopicFault) -> Result<Option<TopicFilter>, AllocError>
     ensures none { IfOk result (λ filter. filter ≡ None) }
     ensures memory { fault ≡ TopicFault.Memory → IsErr result }

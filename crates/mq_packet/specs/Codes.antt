@@ -15,20 +15,20 @@ refusal_number BadUserNameOrPassword = 4
 refusal_number NotAuthorized = 5
 
 abbrev pub refusal_from : ℕ → Option RefusalCode
-refusal_from n =
-    if n == 1 then Some UnacceptableProtocolVersion else
-    (if n == 2 then Some IdentifierRejected else
-    (if n == 3 then Some ServerUnavailable else
-    (if n == 4 then Some BadUserNameOrPassword else
-    (if n == 5 then Some NotAuthorized else None))))
+refusal_from number =
+    if number == 1 then Some UnacceptableProtocolVersion else
+    (if number == 2 then Some IdentifierRejected else
+    (if number == 3 then Some ServerUnavailable else
+    (if number == 4 then Some BadUserNameOrPassword else
+    (if number == 5 then Some NotAuthorized else None))))
 
 abbrev pub code_number : SubAckCode → ℕ
 code_number (Granted qos) = qos_number qos
 code_number Failure = 128
 
 abbrev pub code_from : ℕ → Option SubAckCode
-code_from n =
-    if n == 0 then Some (Granted Q0) else
-    (if n == 1 then Some (Granted Q1) else
-    (if n == 2 then Some (Granted Q2) else
-    (if n == 128 then Some Failure else None)))
+code_from number =
+    if number == 0 then Some (Granted Q0) else
+    (if number == 1 then Some (Granted Q1) else
+    (if number == 2 then Some (Granted Q2) else
+    (if number == 128 then Some Failure else None)))

@@ -33,41 +33,41 @@ protocol = 0 ∷ 4 ∷ 77 ∷ 81 ∷ 84 ∷ 84 ∷ 4 ∷ []
 -- clean session, 0 reserved and 0.
 abbrev pub will_flags : Option Will → ℕ
 will_flags None = 0
-will_flags (Some w) = 4 + 8 * qos_number w.qos + 32 * bit w.retain
+will_flags (Some will) = 4 + 8 * qos_number will.qos + 32 * bit will.retain
 
 abbrev pub password_flag : Option (List ℕ) → ℕ
 password_flag None = 0
-password_flag (Some p) = 64
+password_flag (Some password) = 64
 
 abbrev pub login_flags : Option Login → ℕ
 login_flags None = 0
-login_flags (Some l) = 128 + password_flag l.password
+login_flags (Some login) = 128 + password_flag login.password
 
 abbrev pub connect_flags : Connect → ℕ
-connect_flags c = 2 * bit c.clean_session + will_flags c.will + login_flags c.login
+connect_flags connect = 2 * bit connect.clean_session + will_flags connect.will + login_flags connect.login
 
 abbrev pub will_fields : Option Will → List ℕ
 will_fields None = []
-will_fields (Some w) = counted w.topic ++ counted w.message
+will_fields (Some will) = counted will.topic ++ counted will.message
 
 abbrev pub password_fields : Option (List ℕ) → List ℕ
 password_fields None = []
-password_fields (Some p) = counted p
+password_fields (Some password) = counted password
 
 abbrev pub login_fields : Option Login → List ℕ
 login_fields None = []
-login_fields (Some l) = counted l.name ++ password_fields l.password
+login_fields (Some login) = counted login.name ++ password_fields login.password
 
 -- Protocol name and level, flags and keep-alive (3.1.2.10).
 abbrev pub connect_protocol : Connect → List ℕ
-connect_protocol c = protocol ++ (connect_flags c ∷ number c.keep_alive)
+connect_protocol connect = protocol ++ (connect_flags connect ∷ number connect.keep_alive)
 
 -- These with the client identifier (3.1.3.1): the fields of every CONNECT.
 abbrev pub connect_head : Connect → List ℕ
-connect_head c = connect_protocol c ++ counted c.client_id
+connect_head connect = connect_protocol connect ++ counted connect.client_id
 
 abbrev pub connect_fields : Connect → List ℕ
-connect_fields c = connect_head c ++ (will_fields c.will ++ login_fields c.login)
+connect_fields connect = connect_head connect ++ (will_fields connect.will ++ login_fields connect.login)
 
 -- ---- CONNACK (3.2): Session Present, and the code
 
@@ -79,30 +79,30 @@ connack_fields (Refused code) = 0 ∷ refusal_number code ∷ []
 
 abbrev pub dup_bit : Option Delivery → ℕ
 dup_bit None = 0
-dup_bit (Some d) = bit d.dup
+dup_bit (Some delivery) = bit delivery.dup
 
 abbrev pub delivery_fields : Option Delivery → List ℕ
 delivery_fields None = []
-delivery_fields (Some d) = number d.id
+delivery_fields (Some delivery) = number delivery.id
 
 abbrev pub publish_fields : Publication → List ℕ
-publish_fields p = counted p.message.topic ++ (delivery_fields p.delivery ++ p.message.payload)
+publish_fields publish = counted publish.message.topic ++ (delivery_fields publish.delivery ++ publish.message.payload)
 
 -- ---- the items of lists (3.8.3, 3.9.3, 3.10.3)
 
 abbrev pub request_fields : Request → List ℕ
-request_fields r = counted r.filter ++ qos_number r.qos ∷ []
+request_fields request = counted request.filter ++ qos_number request.qos ∷ []
 
 abbrev pub code_fields : SubAckCode → List ℕ
-code_fields c = code_number c ∷ []
+code_fields code = code_number code ∷ []
 
 -- ---- all packets
 
 -- The packet type in the upper four bits, the flags in the lower four (2.2.1, 2.2.2).
 abbrev pub first_byte : Packet → ℕ
-first_byte (packets.Connect c) = 0x10
-first_byte (packets.ConnAck c) = 0x20
-first_byte (packets.Publish p) = 0x30 + 8 * dup_bit p.delivery + 2 * qos_number p.message.qos + bit p.message.retain
+first_byte (packets.Connect contents) = 0x10
+first_byte (packets.ConnAck contents) = 0x20
+first_byte (packets.Publish publish) = 0x30 + 8 * dup_bit publish.delivery + 2 * qos_number publish.message.qos + bit publish.message.retain
 first_byte (packets.PubAck id) = 0x40
 first_byte (packets.PubRec id) = 0x50
 first_byte (packets.PubRel id) = 0x62
@@ -117,9 +117,9 @@ first_byte packets.Disconnect = 0xe0
 
 -- The fields behind the fixed header.
 abbrev pub fields : Packet → List ℕ
-fields (packets.Connect c) = connect_fields c
-fields (packets.ConnAck c) = connack_fields c
-fields (packets.Publish p) = publish_fields p
+fields (packets.Connect contents) = connect_fields contents
+fields (packets.ConnAck contents) = connack_fields contents
+fields (packets.Publish publish) = publish_fields publish
 fields (packets.PubAck id) = number id
 fields (packets.PubRec id) = number id
 fields (packets.PubRel id) = number id
@@ -132,36 +132,36 @@ fields packets.PingReq = []
 fields packets.PingResp = []
 fields packets.Disconnect = []
 
--- `b` is the encoding of `p`: the first byte, the remaining length and the fields.
-pub record Encodes (p : Packet) (b : List ℕ) : Type 0 where
-  pub packet : IsPacket p
+-- `encoded` is the encoding of `value`: the first byte, the remaining length and the fields.
+pub record Encodes (value : Packet) (encoded : List ℕ) : Type 0 where
+  pub packet : IsPacket value
   pub len : List ℕ
-  pub formed : Length (length (fields p)) len
-  pub bytes : b ≡ first_byte p ∷ len ++ fields p
+  pub formed : Length (length (fields value)) len
+  pub bytes : encoded ≡ first_byte value ∷ len ++ fields value
 
 -- The encoding of a packet.
 unfoldable pub encoding : Packet → List ℕ
-encoding p = first_byte p ∷ length_bytes (length (fields p)) ++ fields p
+encoding packet = first_byte packet ∷ length_bytes (length (fields packet)) ++ fields packet
 
 -- The size of a packet whose fields have this size (2.2).
 abbrev pub encoded_size : ℕ → ℕ
-encoded_size n = 1 + (length (length_bytes n) + n)
+encoded_size size = 1 + (length (length_bytes size) + size)
 
 -- The encodings of packets, concatenated.
 abbrev pub encodings : List Packet → List ℕ
-encodings ps = flat_map encoding ps
+encodings sequence = flat_map encoding sequence
 
--- `b` is the encodings of packets, concatenated.
+-- `bytes` is the encodings of packets, concatenated.
 abbrev pub EncodesAll : List Packet → List ℕ → Type 0
-EncodesAll [] b = b ≡ []
-EncodesAll (p ∷ ps) b = (first : List ℕ) × (rest : List ℕ) × Encodes p first × EncodesAll ps rest × (b ≡ first ++ rest)
+EncodesAll [] bytes = bytes ≡ []
+EncodesAll (packet ∷ others) bytes = (first : List ℕ) × (rest : List ℕ) × Encodes packet first × EncodesAll others rest × (bytes ≡ first ++ rest)
 
 -- The laws of encodings.
 pub record EncodingLaws : Type 0 where
   -- A packet has exactly one encoding, unless its remaining length would exceed 268,435,455.
-  pub exists : (p : Packet) → IsPacket p → length (fields p) < 2 ^ 28 → Encodes p (encoding p)
-  pub one : (p : Packet) (b : List ℕ) → Encodes p b → b ≡ encoding p
+  pub exists : (packet : Packet) → IsPacket packet → length (fields packet) < 2 ^ 28 → Encodes packet (encoding packet)
+  pub one : (packet : Packet) (bytes : List ℕ) → Encodes packet bytes → bytes ≡ encoding packet
   -- Its size.
-  pub size : (p : Packet) (b : List ℕ) → Encodes p b → length b ≡ encoded_size (length (fields p))
+  pub size : (packet : Packet) (bytes : List ℕ) → Encodes packet bytes → length bytes ≡ encoded_size (length (fields packet))
   -- Likewise for several packets.
-  pub all : (ps : List Packet) (b : List ℕ) → EncodesAll ps b → b ≡ encodings ps
+  pub all : (sequence : List Packet) (bytes : List ℕ) → EncodesAll sequence bytes → bytes ≡ encodings sequence

@@ -43,11 +43,11 @@ truth value = decimal (bit value)
 
 abbrev pub will_text : Option Will → List ℕ
 will_text None = []
-will_text (Some w) =
-    codes " will=" ++ (escaped w.topic
-    ++ (codes " wqos=" ++ (decimal (qos_number w.qos)
-    ++ (codes " wretain=" ++ (truth w.retain
-    ++ (codes " wmsg=" ++ hex_of w.message))))))
+will_text (Some will) =
+    codes " will=" ++ (escaped will.topic
+    ++ (codes " wqos=" ++ (decimal (qos_number will.qos)
+    ++ (codes " wretain=" ++ (truth will.retain
+    ++ (codes " wmsg=" ++ hex_of will.message))))))
 
 abbrev pub password_text : Option (List ℕ) → List ℕ
 password_text None = []
@@ -55,14 +55,14 @@ password_text (Some password) = codes " pass=" ++ hex_of password
 
 abbrev pub login_text : Option Login → List ℕ
 login_text None = []
-login_text (Some l) = codes " user=" ++ (escaped l.name ++ password_text l.password)
+login_text (Some login) = codes " user=" ++ (escaped login.name ++ password_text login.password)
 
 abbrev pub connect_text : Connect → List ℕ
-connect_text c =
-    codes "CONNECT id=" ++ (escaped c.client_id
-    ++ (codes " clean=" ++ (truth c.clean_session
-    ++ (codes " keep=" ++ (decimal c.keep_alive
-    ++ (will_text c.will ++ login_text c.login))))))
+connect_text connect =
+    codes "CONNECT id=" ++ (escaped connect.client_id
+    ++ (codes " clean=" ++ (truth connect.clean_session
+    ++ (codes " keep=" ++ (decimal connect.keep_alive
+    ++ (will_text connect.will ++ login_text connect.login))))))
 
 abbrev pub connack_text : ConnAck → List ℕ
 connack_text (Accepted present) = codes "CONNACK session=" ++ (truth present ++ codes " code=0")
@@ -72,20 +72,20 @@ connack_text (Refused refusal) = codes "CONNACK session=0 code=" ++ decimal (ref
 
 abbrev pub is_dup : Option Delivery → Bool
 is_dup None = false
-is_dup (Some d) = d.dup
+is_dup (Some delivery) = delivery.dup
 
 abbrev pub delivery_text : Option Delivery → List ℕ
 delivery_text None = []
-delivery_text (Some d) = codes " id=" ++ decimal d.id
+delivery_text (Some delivery) = codes " id=" ++ decimal delivery.id
 
 abbrev pub publish_text : Publication → List ℕ
-publish_text p =
-    codes "PUBLISH topic=" ++ (escaped p.message.topic
-    ++ (codes " qos=" ++ (decimal (qos_number p.message.qos)
-    ++ (codes " dup=" ++ (truth (is_dup p.delivery)
-    ++ (codes " retain=" ++ (truth p.message.retain
-    ++ (delivery_text p.delivery
-    ++ (codes " payload=" ++ hex_of p.message.payload)))))))))
+publish_text publish =
+    codes "PUBLISH topic=" ++ (escaped publish.message.topic
+    ++ (codes " qos=" ++ (decimal (qos_number publish.message.qos)
+    ++ (codes " dup=" ++ (truth (is_dup publish.delivery)
+    ++ (codes " retain=" ++ (truth publish.message.retain
+    ++ (delivery_text publish.delivery
+    ++ (codes " payload=" ++ hex_of publish.message.payload)))))))))
 
 -- ---- packets with an identifier, and lists (3.4 to 3.11)
 
@@ -93,7 +93,7 @@ abbrev pub identified : List ℕ → ℕ → List ℕ
 identified name id = name ++ (codes " id=" ++ decimal id)
 
 abbrev pub request_text : Request → List ℕ
-request_text r = codes " " ++ (escaped r.filter ++ (codes ":" ++ decimal (qos_number r.qos)))
+request_text request = codes " " ++ (escaped request.filter ++ (codes ":" ++ decimal (qos_number request.qos)))
 
 abbrev pub code_text : SubAckCode → List ℕ
 code_text code = codes " " ++ decimal (code_number code)
@@ -104,9 +104,9 @@ filter_text filter = codes " " ++ escaped filter
 -- ---- all packets
 
 abbrev pub packet_text : Packet → List ℕ
-packet_text (packets.Connect c) = connect_text c
-packet_text (packets.ConnAck c) = connack_text c
-packet_text (packets.Publish p) = publish_text p
+packet_text (packets.Connect contents) = connect_text contents
+packet_text (packets.ConnAck contents) = connack_text contents
+packet_text (packets.Publish publish) = publish_text publish
 packet_text (packets.PubAck id) = identified (codes "PUBACK") id
 packet_text (packets.PubRec id) = identified (codes "PUBREC") id
 packet_text (packets.PubRel id) = identified (codes "PUBREL") id

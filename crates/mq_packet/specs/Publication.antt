@@ -13,16 +13,16 @@ pub record Publication : Type 0 where
 
 -- The same for a borrowed message.
 abbrev pub publication : MessageRef → Option Delivery → Publication
-publication m delivery = record {
-  message = record { topic = m.topic.now; payload = m.payload.now; qos = m.qos; retain = m.retain };
+publication borrowed delivery = record {
+  message = record { topic = borrowed.topic.now; payload = borrowed.payload.now; qos = borrowed.qos; retain = borrowed.retain };
   delivery = delivery;
 }
 
 -- A delivery exists exactly if the QoS is 1 or 2 (2.3.1, 3.3.2.2).
 abbrev pub fits_delivery : Qos → Option Delivery → Bool
 fits_delivery Q0 None = true
-fits_delivery Q0 (Some d) = false
+fits_delivery Q0 (Some delivery) = false
 fits_delivery Q1 None = false
-fits_delivery Q1 (Some d) = true
+fits_delivery Q1 (Some delivery) = true
 fits_delivery Q2 None = false
-fits_delivery Q2 (Some d) = true
+fits_delivery Q2 (Some delivery) = true

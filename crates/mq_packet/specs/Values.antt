@@ -15,37 +15,37 @@ use Rattle.mq_packet.specs.Publication.{Publication, fits_delivery}
 
 -- Bytes with a two-byte length.
 abbrev pub IsBinary : List ℕ → Type 0
-IsBinary b = length b < 65536
+IsBinary bytes = length bytes < 65536
 
 -- A message (3.3): a topic name, and a payload that fits into a packet.
-pub record IsMessage (m : Message) : Type 0 where
-  pub topic : IsTopicName m.topic
-  pub payload : length m.payload < 2 ^ 28
+pub record IsMessage (message : Message) : Type 0 where
+  pub topic : IsTopicName message.topic
+  pub payload : length message.payload < 2 ^ 28
 
 -- PUBLISH (3.3): an identifier exactly if the QoS is 1 or 2.
-pub record IsPublication (p : Publication) : Type 0 where
-  pub message : IsMessage p.message
-  pub fits : fits_delivery p.message.qos p.delivery ≡ true
-  pub identifier : IfSome p.delivery (λ d. IsIdentifier d.id)
+pub record IsPublication (publish : Publication) : Type 0 where
+  pub message : IsMessage publish.message
+  pub fits : fits_delivery publish.message.qos publish.delivery ≡ true
+  pub identifier : IfSome publish.delivery (λ delivery. IsIdentifier delivery.id)
 
 -- The parts of CONNECT (3.1.3).
-pub record IsWill (w : Will) : Type 0 where
-  pub topic : IsTopicName w.topic
-  pub message : IsBinary w.message
+pub record IsWill (will : Will) : Type 0 where
+  pub topic : IsTopicName will.topic
+  pub message : IsBinary will.message
 
-pub record IsLogin (l : Login) : Type 0 where
-  pub name : IsText l.name
-  pub password : IfSome l.password IsBinary
+pub record IsLogin (login : Login) : Type 0 where
+  pub name : IsText login.name
+  pub password : IfSome login.password IsBinary
 
-pub record IsConnect (c : Connect) : Type 0 where
-  pub client_id : IsText c.client_id
-  pub keep_alive : c.keep_alive < 65536
-  pub will : IfSome c.will IsWill
-  pub login : IfSome c.login IsLogin
+pub record IsConnect (connect : Connect) : Type 0 where
+  pub client_id : IsText connect.client_id
+  pub keep_alive : connect.keep_alive < 65536
+  pub will : IfSome connect.will IsWill
+  pub login : IfSome connect.login IsLogin
 
 -- An item of SUBSCRIBE (3.8.3).
 abbrev pub IsRequest : Request → Type 0
-IsRequest r = IsTopicFilter r.filter
+IsRequest request = IsTopicFilter request.filter
 
 -- An identifier and a list of at least one item (3.8, 3.9, 3.10).
 pub record IsList {A : Type 0} (IsItem : A → Type 0) (id : ℕ) (items : List A) : Type 0 where
@@ -54,12 +54,12 @@ pub record IsList {A : Type 0} (IsItem : A → Type 0) (id : ℕ) (items : List 
   pub each : AllByRecursion IsItem items
 
 abbrev pub Always : {A : Type 0} → A → Type 0
-Always a = Unit {0}
+Always item = Unit {0}
 
 abbrev pub IsPacket : Packet → Type 0
-IsPacket (packets.Connect c) = IsConnect c
-IsPacket (packets.ConnAck c) = Unit {0}
-IsPacket (packets.Publish p) = IsPublication p
+IsPacket (packets.Connect contents) = IsConnect contents
+IsPacket (packets.ConnAck contents) = Unit {0}
+IsPacket (packets.Publish publish) = IsPublication publish
 IsPacket (packets.PubAck id) = IsIdentifier id
 IsPacket (packets.PubRec id) = IsIdentifier id
 IsPacket (packets.PubRel id) = IsIdentifier id

@@ -27,5 +27,5 @@ pub record WritesFront (packet : Packet) (old new : Option (List ℕ)) : Type 0 
 
 -- On `Err`: nothing was written if the packet was not encoded, otherwise a prefix of it.
 abbrev pub FailsToWrite : Packet → Option (List ℕ) → Option (List ℕ) → WriteError → Type 0
-FailsToWrite packet old new (Encode e) = Keeps old new
-FailsToWrite packet old new (Io e) = WritesFront packet old new
+FailsToWrite packet old new (Encode error) = Keeps old new
+FailsToWrite packet old new (Io error) = WritesFront packet old new

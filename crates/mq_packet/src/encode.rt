@@ -58,7 +58,8 @@ fn first_byte(packet: &Packet) -> u8
 /// 268,435,455 (2.2.3).
 pub fn encoded_len(packet: &Packet) -> Option<u32>
     ensures fits { IsSome result ↔ (length (fields packet.now) < 2 ^ 28) }
-    ensures len { IfSome result (λ n. (b : List ℕ) → Encodes packet.now b → length b ≡ n) }
+    ensures len { IfSome result
+        (λ n. (bytes : List ℕ) → Encodes packet.now bytes → length bytes ≡ n) }
 {
     let rest = fields_len(packet)?;
     let size = varlen_len(rest)?;
@@ -120,7 +121,7 @@ fn put_header(out: &mut Vec<u8>, first: u8, rest: u32) -> Result<(), EncodeError
 /// 268,435,455, `Memory` if the allocation fails.
 pub fn encode_into(packet: &Packet, out: &mut Vec<u8>) -> Result<(), EncodeError>
     ensures ok { OnOk result
-        ((b : List ℕ) × Encodes packet.now b × (out.new.items ≡ out.old.items ++ b)) }
+        ((bytes : List ℕ) × Encodes packet.now bytes × (out.new.items ≡ out.old.items ++ bytes)) }
     ensures too_large { IsErrOf result EncodeError.TooLarge ↔ (2 ^ 28 ≤ length (fields packet.now)) }
     ensures room { vec_len out.old + encoded_size (length (fields packet.now)) ≤ vec_capacity out.old
         → IfErr result (λ why. why ≡ EncodeError.TooLarge) }
@@ -145,7 +146,7 @@ pub fn encode_publish_into(
 ) -> Result<(), EncodeError>
     requires { fits_delivery message.now.qos delivery ≡ true }
     ensures ok { let packet = Packet.Publish (record { message = message.now; delivery = delivery }) in OnOk result
-        ((b : List ℕ) × Encodes packet b × (out.new.items ≡ out.old.items ++ b)) }
+        ((bytes : List ℕ) × Encodes packet bytes × (out.new.items ≡ out.old.items ++ bytes)) }
     ensures too_large { let packet = Packet.Publish (record { message = message.now; delivery = delivery }) in
         IsErrOf result EncodeError.TooLarge ↔ (2 ^ 28 ≤ length (fields packet)) }
     ensures room { let packet = Packet.Publish (record { message = message.now; delivery = delivery }) in

@@ -12,8 +12,8 @@ use crate::publish::{Delivery, Publish};
 use mq_topic::TopicFilter;
 use std::fmt;
 
-/// Displays a packet as its name and its fields, on one line without a line's end, however long it
-/// is. Texts are displayed as by `Escaped`, other bytes as by `Hex`, and truth values as 0 and 1.
+/// Displays a packet on one line, without a line end: its name and fields. Texts are displayed as
+/// by `Escaped`, other bytes as by `Hex`, and truth values as 0 and 1.
 impl fmt::Display for Packet {
     ghost output = { λ packet. Some (packet_text packet) };
 

@@ -11,7 +11,7 @@ use Rattle.mq_picture.specs.declared.rows.Chart.{Chart}
 use Rattle.mq_picture.specs.declared.rows.Flying.{Flying}
 use Rattle.mq_picture.specs.declared.rows.Lane.{Lane}
 use Rattle.mq_picture.specs.declared.summary.Summary.{Summary}
-use Rattle.mq_picture.specs.Lanes.{Ends, IsChart, other, waiting}
+use Rattle.mq_picture.specs.Inside.Lanes.{Ends, IsChart, other, waiting}
 use Rattle.mq_picture.specs.Rows.{Draws, brought_by, brought_to, drawn_to, noted_by, sent_by, sent_to, shown_to}
 
 -- ---- one lane changes

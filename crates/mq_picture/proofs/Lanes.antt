@@ -4,7 +4,7 @@ use Rattle.mq_world.specs.declared.side.Side.{Side}
 use Rattle.mq_picture.specs.declared.rows.Flying.{Flying}
 use Rattle.mq_picture.specs.declared.rows.Lane.{Lane}
 use Rattle.mq_picture.specs.declared.rows.Row.{Row}
-use Rattle.mq_picture.specs.Lanes.{Ends, other, waiting}
+use Rattle.mq_picture.specs.Inside.Lanes.{Ends, other, waiting}
 use Rattle.mq_picture.specs.Rows.{drawn_to, shown_to}
 
 -- one change after another

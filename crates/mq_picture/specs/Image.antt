@@ -58,16 +58,16 @@ abbrev pub arrow_place : Side → Fate → ℕ → List ℕ
 arrow_place to fate row = decimal row ++ text_place to (reaches fate) row
 
 abbrev pub arrow_label : Arrow → List ℕ
-arrow_label a = arrow_text a ++ codes "</text>\n"
+arrow_label arrow = arrow_text arrow ++ codes "</text>\n"
 
 abbrev pub arrow_lines : ℕ → Arrow → List ℕ
-arrow_lines row a = arrow_line a.to a.fate a.sent ++ (arrow_place a.to a.fate row ++ arrow_label a)
+arrow_lines row arrow = arrow_line arrow.to arrow.fate arrow.sent ++ (arrow_place arrow.to arrow.fate row ++ arrow_label arrow)
 
 -- ---- Notes
 
 abbrev pub note_look : Note → List ℕ
 note_look (notes.Up present) = codes "note"
-note_look (notes.Delivered m) = codes "good"
+note_look (notes.Delivered message) = codes "good"
 note_look (notes.Accepted id) = codes "note"
 note_look (notes.Refused why) = codes "bad"
 note_look (notes.Closed why) = codes "bad"
@@ -90,7 +90,7 @@ note_lines row Server note =
 -- ---- Rows
 
 abbrev pub row_lines : ℕ → Row → List ℕ
-row_lines number (drawn.Arrow a) = arrow_lines number a
+row_lines number (drawn.Arrow arrow) = arrow_lines number arrow
 row_lines number (drawn.Note side note) = note_lines number side note
 
 -- rows from the one with this number

@@ -1,9 +1,7 @@
 pub mod Fault
 pub mod Image
 pub mod Inside
-pub mod Lanes
 pub mod Prelude
 pub mod Records
 pub mod Rows
-pub mod Summaries
 pub mod Texts

@@ -42,7 +42,7 @@ published_entries side (Err why) = Noted side (notes.Refused why) ∷ []
 -- An event of an end. No event of a world makes an end subscribe.
 abbrev pub happening_entries : Side → Happening → List Entry
 happening_entries side (Up present) = Noted side (notes.Up present) ∷ []
-happening_entries side (Handed m) = Noted side (notes.Delivered m) ∷ []
+happening_entries side (Handed message) = Noted side (notes.Delivered message) ∷ []
 happening_entries side (Subscribe id requests) = []
 happening_entries side (Unsubscribe id filters) = []
 happening_entries side (SubAck id given) = []
@@ -55,10 +55,10 @@ closed_entries side None = []
 closed_entries side (Some why) = Cleared side ∷ Noted side (notes.Closed why) ∷ []
 
 abbrev pub delivery_entries : Delivery → List Entry
-delivery_entries d =
-    Arrived d.side (length d.bytes) d.lost
-    ∷ (flat_map (happening_entries d.side) d.progress.happenings
-    ++ closed_entries d.side d.progress.closed)
+delivery_entries delivery =
+    Arrived delivery.side (length delivery.bytes) delivery.lost
+    ∷ (flat_map (happening_entries delivery.side) delivery.progress.happenings
+    ++ closed_entries delivery.side delivery.progress.closed)
 
 -- The bytes in flight to a side are lost, and its connection if it was open.
 abbrev pub dropped_entries : Side → Bool → List Entry
@@ -71,9 +71,9 @@ refused_entries false = []
 refused_entries true = Noted Client (notes.Refused refusals.Memory) ∷ []
 
 abbrev pub opening_entries : Opening → List Entry
-opening_entries o =
-    dropped_entries Client o.client_dropped
-    ++ (dropped_entries Server o.server_dropped ++ refused_entries o.refused)
+opening_entries opening =
+    dropped_entries Client opening.client_dropped
+    ++ (dropped_entries Server opening.server_dropped ++ refused_entries opening.refused)
 
 abbrev pub anew_entries : Result ⊤ PublishRefusal → List Entry
 anew_entries (Ok done) = Noted Client notes.Restarted ∷ []
@@ -88,23 +88,23 @@ ticked_entries side (Ok closed) = closed_entries side closed
 ticked_entries side (Err why) = Noted side (notes.Refused why) ∷ []
 
 abbrev pub settling_entries : Settling → List Entry
-settling_entries s = opening_entries s.opening ++ flat_map delivery_entries s.deliveries
+settling_entries settling = opening_entries settling.opening ++ flat_map delivery_entries settling.deliveries
 
 abbrev pub answer_entries : Answer → List Entry
 answer_entries (answers.Published side outcome) = published_entries side outcome
-answer_entries (answers.Delivered d) = delivery_entries d
+answer_entries (answers.Delivered delivery) = delivery_entries delivery
 answer_entries (answers.Dropped side was_open) = dropped_entries side was_open
 answer_entries (answers.Restarted was_open outcome) = dropped_entries Client was_open ++ anew_entries outcome
 answer_entries (answers.Left outcome) = left_entries outcome
-answer_entries (answers.Opened o) = opening_entries o
+answer_entries (answers.Opened opening) = opening_entries opening
 answer_entries (answers.Ticked side outcome) = ticked_entries side outcome
-answer_entries (answers.Settled s) = settling_entries s
+answer_entries (answers.Settled settling) = settling_entries settling
 
 -- ---- A record
 
 -- The record of a schedule has the entries of its replay, and packets that were sent.
-pub record IsRecord (s : Schedule) (history : List Entry) : Type 0 where
+pub record IsRecord (schedule : Schedule) (history : List Entry) : Type 0 where
   pub answers : List Answer
   pub end : Wired
-  pub comes : Comes s.limits (non_zero_u16_get s.capacity) (number_of s.window) s.steps.items answers end
+  pub comes : Comes schedule.limits (non_zero_u16_get schedule.capacity) (number_of schedule.window) schedule.steps.items answers end
   pub entries : unsent history ≡ flat_map answer_entries answers

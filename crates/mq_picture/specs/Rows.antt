@@ -30,7 +30,7 @@ sent_to side history = flat_map (sent_by side) history
 
 -- The packets of the arrows to a side, from the top.
 abbrev pub drawn_by : Side → Row → List Summary
-drawn_by side (drawn.Arrow a) = if same_side a.to side then a.packet ∷ [] else []
+drawn_by side (drawn.Arrow arrow) = if same_side arrow.to side then arrow.packet ∷ [] else []
 drawn_by side (drawn.Note at note) = []
 
 abbrev pub drawn_to : Side → List Row → List Summary
@@ -48,7 +48,7 @@ brought_to side history = sum_by (brought_by side) history
 
 -- The number of bytes that arrived, by the arrows to a side.
 abbrev pub shown_bytes : Side → Row → ℕ
-shown_bytes side (drawn.Arrow a) = if same_side a.to side then a.arrived else 0
+shown_bytes side (drawn.Arrow arrow) = if same_side arrow.to side then arrow.arrived else 0
 shown_bytes side (drawn.Note at note) = 0
 
 abbrev pub shown_to : Side → List Row → ℕ
@@ -61,7 +61,7 @@ noted_by (entries.Noted side note) = (side, note) ∷ []
 noted_by entry = []
 
 abbrev pub shown_by : Row → List (Side × Note)
-shown_by (drawn.Arrow a) = []
+shown_by (drawn.Arrow arrow) = []
 shown_by (drawn.Note side note) = (side, note) ∷ []
 
 -- ---- Diagrams
@@ -75,7 +75,7 @@ reaches fates.InFlight = false
 
 -- An arrow reaches the other side only if all bytes of its packet arrived.
 abbrev pub IsFair : Row → Type 0
-IsFair (drawn.Arrow a) = reaches a.fate ≡ true → a.packet.size ≤ a.arrived
+IsFair (drawn.Arrow arrow) = reaches arrow.fate ≡ true → arrow.packet.size ≤ arrow.arrived
 IsFair (drawn.Note side note) = Unit {0}
 
 -- The diagram of a record: each packet is one arrow, and each event of a side one note, in order.

@@ -34,9 +34,9 @@ is_plain byte = not (byte == 60 || byte == 62 || byte == 38 || byte == 34)
 
 abbrev pub same_bytes : List ℕ → List ℕ → Bool
 same_bytes [] [] = true
-same_bytes (x ∷ xs) (y ∷ ys) = x == y && same_bytes xs ys
-same_bytes [] (y ∷ ys) = false
-same_bytes (x ∷ xs) [] = false
+same_bytes (byte ∷ bytes) (other ∷ others) = byte == other && same_bytes bytes others
+same_bytes [] (other ∷ others) = false
+same_bytes (byte ∷ bytes) [] = false
 
 abbrev pub is_entity : List ℕ → Bool
 is_entity text = same_bytes text (codes "&lt;") || same_bytes text (codes "&gt;") || same_bytes text (codes "&amp;") || same_bytes text (codes "&quot;")
@@ -58,7 +58,7 @@ abbrev pub short_payload : List ℕ → List ℕ
 short_payload payload = hex_of (take 4 payload) ++ dots 4 payload
 
 abbrev pub delivered_text : Message → List ℕ
-delivered_text m = codes "delivered: " ++ (short_topic m.topic ++ (codes " " ++ short_payload m.payload))
+delivered_text message = codes "delivered: " ++ (short_topic message.topic ++ (codes " " ++ short_payload message.payload))
 
 abbrev pub accepted_text : Option ℕ → List ℕ
 accepted_text (Some id) = codes "message " ++ (decimal id ++ codes " accepted")
@@ -67,7 +67,7 @@ accepted_text None = codes "message accepted"
 abbrev pub note_text : Note → List ℕ
 note_text (notes.Up true) = codes "connected, session present"
 note_text (notes.Up false) = codes "connected, new session"
-note_text (notes.Delivered m) = delivered_text m
+note_text (notes.Delivered message) = delivered_text message
 note_text (notes.Accepted id) = accepted_text id
 note_text (notes.Refused why) = codes "refused " ++ refusal_code why
 note_text (notes.Closed why) = codes "closed " ++ close_code why
@@ -103,7 +103,7 @@ dup_text true = codes " DUP"
 dup_text false = []
 
 abbrev pub summary_text : Summary → List ℕ
-summary_text s = kind_text s.kind ++ (id_text s.id ++ dup_text s.dup)
+summary_text summary = kind_text summary.kind ++ (id_text summary.id ++ dup_text summary.dup)
 
 -- how the way of a packet ends
 abbrev pub fate_text : Fate → ℕ → ℕ → List ℕ
@@ -113,4 +113,4 @@ fate_text fates.Cut arrived size = codes ": " ++ (decimal arrived ++ (codes " of
 fate_text fates.InFlight arrived size = codes ": " ++ (decimal arrived ++ (codes " of " ++ (decimal size ++ codes " bytes so far")))
 
 abbrev pub arrow_text : Arrow → List ℕ
-arrow_text a = summary_text a.packet ++ fate_text a.fate a.arrived a.packet.size
+arrow_text arrow = summary_text arrow.packet ++ fate_text arrow.fate arrow.arrived arrow.packet.size

@@ -164,7 +164,7 @@ impl Chart {
         }
     }
 
-    // Puts a packet on its way.
+    // Adds a packet in flight to a side.
     fn send(&mut self, to: Side, packet: Summary) -> Result<(), AllocError>
         ensures { (history : List Entry) → IsChart history self.old
             → OnOk result (IsChart (history ++ Entry.Sent to packet ∷ []) self.new) }

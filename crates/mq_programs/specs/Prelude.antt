@@ -12,7 +12,7 @@ pub use Rattle.mq_schedule.specs.Schedule.{IsSchedule, lines_of}
 pub use Rattle.mq_store.specs.Restoring.{IsFound}
 pub use Rattle.mq_programs.specs.Drawing.{IsDrawRun, IsImageSaved, IsSaved}
 pub use Rattle.mq_programs.specs.Inputs.{input_of}
-pub use Rattle.mq_programs.specs.Journal.{IsBegun}
+pub use Rattle.mq_programs.specs.Inside.Journal.{IsBegun}
 pub use Rattle.mq_programs.specs.Kept.{IsBrokerStatus, IsEnded, IsReady, MayEnd, keep_of}
 pub use Rattle.mq_programs.specs.Options.{AreOptionsOf, milliseconds, start_status, when_full_of}
 pub use Rattle.mq_programs.specs.Password.{IsPasswordDone, IsPasswordRun, without_line_end}

@@ -1,4 +1,4 @@
--- What the client programs do for their arguments.
+-- The effect of the client programs for their arguments.
 use Rattle.std.specs.Prelude.{◌≡◌, ◌⊎◌, ℕ, Bool, List, Option, Some, None, MatchOption, codes}
 use Rattle.mq_topic.specs.Fault.{filter_fault, name_fault}
 use Rattle.mq_topic.specs.declared.fault.TopicFault.{TopicFault}
@@ -12,17 +12,17 @@ use Rattle.mq_client.specs.declared.publisher.Publications.{Publications}
 use Rattle.mq_client.specs.Programs.{IsMessagesDone, IsSessionDone, IsTextsDone}
 
 -- the texts of the arguments, with their topic
-pub record AreTextsOf (words : Publish) (t : Publications) : Type 0 where
-  pub topic : t.topic.now ≡ words.topic.now
-  pub qos : t.qos ≡ words.qos
-  pub retain : t.retain ≡ words.retain
-  pub texts : t.texts.now ≡ words.texts.items
+pub record AreTextsOf (words : Publish) (publications : Publications) : Type 0 where
+  pub topic : publications.topic.now ≡ words.topic.now
+  pub qos : publications.qos ≡ words.qos
+  pub retain : publications.retain ≡ words.retain
+  pub texts : publications.texts.now ≡ words.texts.items
 
 -- the filter of the arguments, with the quality of service and the count
-pub record IsGoalOf (words : Collect) (w : CollectGoal) : Type 0 where
-  pub filter : w.filter.now ≡ words.filter.now
-  pub qos : w.qos ≡ words.qos
-  pub count : w.count ≡ words.count
+pub record IsGoalOf (words : Collect) (goal : CollectGoal) : Type 0 where
+  pub filter : goal.filter.now ≡ words.filter.now
+  pub qos : goal.qos ≡ words.qos
+  pub count : goal.count ≡ words.count
 
 -- the argument is not a topic name, or no topic filter, and this is its first fault
 abbrev pub IsBadTopic : List ℕ → Option TopicFault → ℕ → List ℕ → Type 0
@@ -35,18 +35,18 @@ IsInUse status text = (status ≡ 1) × (text ≡ codes "session in use\n")
 
 -- the texts are published over the session in this file, unless another run uses it
 abbrev pub IsLockedRun : List ℕ → Bool → List ℕ → Publications → ℕ → List ℕ → Type 0
-IsLockedRun file forgotten id t status text = IsSessionDone None file forgotten id t status text ⊎ IsInUse status text
+IsLockedRun file forgotten id publications status text = IsSessionDone None file forgotten id publications status text ⊎ IsInUse status text
 
 -- the same over the session in some file, to which a name leads through symbolic links
 abbrev pub IsSessionRun : Bool → List ℕ → Publications → ℕ → List ℕ → Type 0
-IsSessionRun forgotten id t status text = (file : List ℕ) × IsLockedRun file forgotten id t status text
+IsSessionRun forgotten id publications status text = (file : List ℕ) × IsLockedRun file forgotten id publications status text
 
 -- The texts are published: over the session in the file that the arguments name, or over a clean
 -- session if they name none.
 abbrev pub IsPublished : Publish → ℕ → List ℕ → Type 0
 IsPublished words status text =
-    (t : Publications) × AreTextsOf words t × MatchOption words.session (IsTextsDone words.id.now t status text)
-    (λ name. IsSessionRun words.forget words.id.now t status text)
+    (publications : Publications) × AreTextsOf words publications × MatchOption words.session (IsTextsDone words.id.now publications status text)
+    (λ name. IsSessionRun words.forget words.id.now publications status text)
 
 -- `publish` with these arguments
 abbrev pub IsPublishRun : Publish → ℕ → List ℕ → Type 0
@@ -56,7 +56,7 @@ IsPublishRun words status text =
 -- the messages of the filter are collected, with the clean session flag of the arguments
 abbrev pub IsCollected : Collect → ℕ → List ℕ → Type 0
 IsCollected words status text =
-    (w : CollectGoal) × IsGoalOf words w × IsMessagesDone words.id.now words.clean w status text
+    (goal : CollectGoal) × IsGoalOf words goal × IsMessagesDone words.id.now words.clean goal status text
 
 -- `collect` with these arguments
 abbrev pub IsCollectRun : Collect → ℕ → List ℕ → Type 0

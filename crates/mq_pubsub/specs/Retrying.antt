@@ -1,4 +1,4 @@
--- When a run goes on after a loss, and how long it waits.
+-- When a run continues after a loss, and how long it waits.
 use Rattle.std.specs.Prelude.{ℕ, ◌-◌, ◌*◌, ◌≤◌, min, Bool, true, false, Option, Some, None}
 use Rattle.mq_packet.specs.declared.connack.RefusalCode.TheVariants as refusals
 use Rattle.mq_end.specs.declared.reason.CloseReason.TheVariants as reasons

@@ -27,14 +27,14 @@ config_of setup = record {
 }
 
 -- a client with the session that these bytes are the saved form of (4.1)
-pub record GoesOn (setup : Setup) (bytes : List ℕ) (c : ClientState) : Type 0 where
+pub record GoesOn (setup : Setup) (bytes : List ℕ) (client : ClientState) : Type 0 where
   pub saved : Saved
   pub form : IsSavedAs saved bytes
   pub session : IsSession saved.session
-  pub config : c.config ≡ config_of setup
-  pub end : c.link.end ≡
+  pub config : client.config ≡ config_of setup
+  pub end : client.link.end ≡
       resumed None saved.established saved.session.sender.book saved.session.receiver saved.session.sender.last
-  pub capacity : c.link.capacity ≡ saved.session.sender.capacity
+  pub capacity : client.link.capacity ≡ saved.session.sender.capacity
 
 -- These bytes are the saved form of a session that a client of this configuration can continue
 -- with.

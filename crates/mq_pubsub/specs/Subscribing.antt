@@ -25,14 +25,14 @@ verdict_of choice message =
 
 -- `-C`: a message is printed, and the run ends if it was the last one
 abbrev pub counts : Option ℕ → Inbox → Inbox
-counts None i = i
-counts (Some left) i = record i { left = Some (left - 1); is_ended = nat_le left 1 }
+counts None inbox = inbox
+counts (Some left) inbox = record inbox { left = Some (left - 1); is_ended = nat_le left 1 }
 
 -- what a verdict does
 abbrev pub judged : Verdict → Inbox → Inbox
-judged verdicts.Print i = counts i.left i
-judged verdicts.Skip i = i
-judged verdicts.End i = record i { is_ended = true }
+judged verdicts.Print inbox = counts inbox.left inbox
+judged verdicts.Skip inbox = inbox
+judged verdicts.End inbox = record inbox { is_ended = true }
 
 abbrev pub printed : Verdict → Message → List Message
 printed verdicts.Print message = message ∷ []
@@ -41,44 +41,44 @@ printed verdicts.End message = []
 
 -- Once the run has ended nothing is printed.
 abbrev pub delivers : Choice → Inbox → Message → Inbox
-delivers choice i message = if i.is_ended then i else judged (verdict_of choice message) i
+delivers choice inbox message = if inbox.is_ended then inbox else judged (verdict_of choice message) inbox
 
 abbrev pub prints : Choice → Inbox → Message → List Message
-prints choice i message = if i.is_ended then [] else printed (verdict_of choice message) message
+prints choice inbox message = if inbox.is_ended then [] else printed (verdict_of choice message) message
 
 -- ---- happenings
 
 -- CONNACK: the subscriptions are requested, unless they were granted in a session that the server
 -- still has (3.2.2.2).
 abbrev pub connects : Bool → Inbox → Inbox
-connects present i = record i { is_granted = i.is_granted && present; is_due = not (i.is_granted && present) }
+connects present inbox = record inbox { is_granted = inbox.is_granted && present; is_due = not (inbox.is_granted && present) }
 
 -- `-E`: the run ends once the subscriptions are granted
 abbrev pub granted : Bool → Inbox → Inbox
-granted ends i = record i { is_granted = true; is_ended = i.is_ended || ends }
+granted ends inbox = record inbox { is_granted = true; is_ended = inbox.is_ended || ends }
 
 -- the state after a happening, and the messages that it prints
 abbrev pub state_after : Choice → Bool → Inbox → Happening → Inbox
-state_after choice ends i (happens.Up present) = connects present i
-state_after choice ends i (happens.Handed message) = delivers choice i message
-state_after choice ends i (happens.SubAck id codes) = granted ends i
-state_after choice ends i (happens.UnsubAck id) = if i.only_gives_up then granted ends i else i
-state_after choice ends i (happens.Subscribe id requests) = i
-state_after choice ends i (happens.Unsubscribe id filters) = i
-state_after choice ends i happens.Pong = i
+state_after choice ends inbox (happens.Up present) = connects present inbox
+state_after choice ends inbox (happens.Handed message) = delivers choice inbox message
+state_after choice ends inbox (happens.SubAck id codes) = granted ends inbox
+state_after choice ends inbox (happens.UnsubAck id) = if inbox.only_gives_up then granted ends inbox else inbox
+state_after choice ends inbox (happens.Subscribe id requests) = inbox
+state_after choice ends inbox (happens.Unsubscribe id filters) = inbox
+state_after choice ends inbox happens.Pong = inbox
 
 abbrev pub prints_at : Choice → Inbox → Happening → List Message
-prints_at choice i (happens.Handed message) = prints choice i message
-prints_at choice i (happens.Up present) = []
-prints_at choice i (happens.SubAck id codes) = []
-prints_at choice i (happens.UnsubAck id) = []
-prints_at choice i (happens.Subscribe id requests) = []
-prints_at choice i (happens.Unsubscribe id filters) = []
-prints_at choice i happens.Pong = []
+prints_at choice inbox (happens.Handed message) = prints choice inbox message
+prints_at choice inbox (happens.Up present) = []
+prints_at choice inbox (happens.SubAck id codes) = []
+prints_at choice inbox (happens.UnsubAck id) = []
+prints_at choice inbox (happens.Subscribe id requests) = []
+prints_at choice inbox (happens.Unsubscribe id filters) = []
+prints_at choice inbox happens.Pong = []
 
 -- Happenings in order lead from one state to another, and these messages are printed, in order.
 abbrev pub Prints : Choice → Bool → Inbox → List Happening → Inbox → List Message → Type 0
-Prints choice ends i [] j messages = (j ≡ i) × (messages ≡ [])
-Prints choice ends i (happening ∷ others) j messages =
-    (rest : List Message) × (messages ≡ prints_at choice i happening ++ rest)
-    × Prints choice ends (state_after choice ends i happening) others j rest
+Prints choice ends inbox [] later messages = (later ≡ inbox) × (messages ≡ [])
+Prints choice ends inbox (happening ∷ others) later messages =
+    (rest : List Message) × (messages ≡ prints_at choice inbox happening ++ rest)
+    × Prints choice ends (state_after choice ends inbox happening) others later rest

@@ -16,7 +16,7 @@ pub enum Notice {
     SessionLost,
 }
 
-/// Prints messages.
+/// Prints messages. Calls may come in any order.
 pub trait Printer {
     /// The messages that were printed and flushed, in order, if they are known.
     ghost shown: { Self → Option (List Delivered) } = { λ _. None };

@@ -18,7 +18,8 @@ pub enum Next {
     End,
 }
 
-/// A source of messages to publish. It does not wait.
+/// A source of messages to publish. It does not wait. A run calls `next` until it returns `End`,
+/// and `report` in between.
 pub trait Source {
     /// The messages that are to come, in order, if they are known.
     ghost coming: { Self → Option (List Published) } = { λ _. None };

@@ -1,4 +1,4 @@
--- What options say, for the matches of the parser.
+-- The meaning of options, for the matches of the parser.
 use Rattle.std.specs.Prelude.{◌≡◌, ◌≢◌, ◌⊎◌, ◌≤◌, ◌<◌, ◌^◌, ℕ, Bool, true, false, List, [], ◌∷◌, ◌++◌, length, map, Option, Some, None, not, option_map, unwrap_or, is_some, codes, string_bytes}
 use Rattle.std.specs.Str.Parse.{IsNumeral, digits_value, without_leading_plus}
 use Rattle.clap.specs.Words.{Text, first_value, matched_of, one_text, raw_values}
@@ -31,7 +31,7 @@ pub record IsFlag (value : Option Text) (flag : Bool) : Type 0 where
 -- the number that these digits write in base 10, if they do and it has at most this many bits
 abbrev pub IsWritten : ℕ → List ℕ → Option ℕ → Type 0
 IsWritten bits digits None = ¬ (IsNumeral 10 digits × (digits_value 10 digits < 2 ^ bits))
-IsWritten bits digits (Some n) = IsNumeral 10 digits × (n ≡ digits_value 10 digits)
+IsWritten bits digits (Some number) = IsNumeral 10 digits × (number ≡ digits_value 10 digits)
 
 -- the number of an option, if it was given
 abbrev pub IsNumber : ℕ → Option Text → Option ℕ → Type 0
@@ -53,7 +53,7 @@ IsQuality text qos = (found : Option ℕ) × IsNumber 8 text found × (qos ≡ q
 -- the milliseconds of an option with seconds, if it was given
 abbrev pub IsTime : Option Text → Option ℕ → Type 0
 IsTime None milliseconds = milliseconds ≡ None
-IsTime (Some text) milliseconds = (n : ℕ) × (milliseconds ≡ Some n) × IsDuration text n
+IsTime (Some text) milliseconds = (count : ℕ) × (milliseconds ≡ Some count) × IsDuration text count
 
 -- the longest wait between connections: 30 seconds without an option, and none with `never`
 abbrev pub IsLongestWait : Option Text → Option ℕ → Type 0
@@ -67,8 +67,8 @@ IsTopicOf None url topic = url ≡ Some topic
 
 -- the first of these that is there
 abbrev pub first_of_three : {X : Type 0} → Option X → Option X → Option X → Option X
-first_of_three (Some x) url default = Some x
-first_of_three None (Some x) default = Some x
+first_of_three (Some value) url default = Some value
+first_of_three None (Some value) default = Some value
 first_of_three None None default = default
 
 -- the will of the options, whose payload fits its field (3.1.3.3)

@@ -18,7 +18,7 @@ pub record IsWhole (digits : List ℕ) (milliseconds : ℕ) : Type 0 where
   pub numeral : IsNumeral 10 digits
   pub value : milliseconds ≡ digits_value 10 digits * 1000
 
--- the digits behind a point, and what they count
+-- the digits behind a point, and their milliseconds
 pub record IsFraction (digits : List ℕ) (milliseconds : ℕ) : Type 0 where
   pub some : 0 < length digits
   pub all_digits : All IsDigit digits

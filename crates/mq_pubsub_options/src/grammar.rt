@@ -107,7 +107,7 @@ static COMMON: [Row; 19] = [
         long: Some("id"),
         kind: Kind::Text,
         value: "ID",
-        help: "The client identifier [default: made up]",
+        help: "The client identifier [default: generated]",
     },
     Row {
         id: "KEEP",

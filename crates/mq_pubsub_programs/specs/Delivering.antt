@@ -1,4 +1,4 @@
--- What a run of `mqtt pub` did if its exit status is 0.
+-- The effect of a run of `mqtt pub` whose exit status is 0.
 use Rattle.std.specs.Prelude.{◌≡◌, ◌≢◌, ⊤, ℕ, Bool, true, false, List, [], ◌∷◌, map, Option}
 use Rattle.mq_packet.specs.declared.message.Message.{Message}
 use Rattle.mq_client.specs.Course.{IsIdle, Leaves, Moment}
@@ -40,7 +40,7 @@ IsSupply words (supplies.Lines input) = is_lines words.payloads ≡ true
 
 -- All messages that a source gave were published, and are sent or acknowledged.
 abbrev pub Completes : Option (List Message) → Option (List Message) → Type 0
-Completes coming left = (a : Moment) × (b : Moment) × AllPosted a b coming left
+Completes coming left = (start : Moment) × (end : Moment) × AllPosted start end coming left
 
 -- The messages of the arguments were published, in order. Each of QoS 0 was sent, and each of QoS 1
 -- and 2 is acknowledged (4.3). Then the client left (3.14).

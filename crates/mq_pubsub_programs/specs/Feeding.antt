@@ -12,7 +12,7 @@ use Rattle.mq_pubsub_programs.specs.declared.supply.InputLines.{InputLines}
 -- the payloads, this many times
 abbrev pub rounds_of : List (List ℕ) → ℕ → List (List ℕ)
 rounds_of payloads zero = []
-rounds_of payloads (suc n) = payloads ++ rounds_of payloads n
+rounds_of payloads (suc count) = payloads ++ rounds_of payloads count
 
 -- the payloads that are to come, in order
 abbrev pub coming_payloads : Known → List (List ℕ)
@@ -54,7 +54,7 @@ EndsSupply supply (lines.Line payload) = ⊤
 EndsSupply supply lines.Later = ⊤
 EndsSupply supply lines.End = IsUsedUp supply
 
--- the same of standard input
+-- the same for standard input
 abbrev pub EndsInput : InputLines → InputLine → Type 0
 EndsInput input (lines.Line payload) = ⊤
 EndsInput input lines.Later = ⊤

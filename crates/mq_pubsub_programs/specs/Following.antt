@@ -1,4 +1,4 @@
--- What a run of `mqtt sub` did if its exit status is 0.
+-- The effect of a run of `mqtt sub` whose exit status is 0.
 use Rattle.std.specs.Prelude.{◌≡◌, ℕ, true, not, List, [], map, Option, option_map, unwrap_or}
 use Rattle.mq_topic.specs.declared.qos.Qos.{Qos}
 use Rattle.mq_packet.specs.declared.message.Message.{Message}
@@ -9,12 +9,12 @@ use Rattle.mq_pubsub.specs.declared.options.SubscribeOptions.{SubscribeOptions}
 use Rattle.mq_pubsub_options.specs.declared.subscribing.SubscribeWords.{SubscribeWords}
 use Rattle.mq_pubsub_runs.specs.Watching.{Watched, first_inbox}
 
--- The run came to its end: the messages of `-C` are printed, a message came that is not retained
+-- The run ended: the messages of `-C` are printed, a message arrived that is not retained
 -- (`--retained-only`), or the subscriptions are granted (`-E`). Everything that it received before
 -- it sent bytes was printed and flushed.
 abbrev pub ComesToEnd : SubscribeOptions → Option (List Message) → Option (List Message) → Type 0
 ComesToEnd options shown printed =
-    (a : Moment) × (b : Moment) × (j : Inbox) × Watched options a (first_inbox options) shown b j printed × (j.is_ended ≡ true)
+    (start : Moment) × (end : Moment) × (last : Inbox) × Watched options start (first_inbox options) shown end last printed × (last.is_ended ≡ true)
 
 -- the request of a filter (3.8)
 abbrev pub request_of : Qos → List ℕ → Request
@@ -34,7 +34,7 @@ pub record IsRun (words : SubscribeWords) (options : SubscribeOptions) : Type 0 
   pub longest_wait : options.retry.longest_wait ≡ words.common.longest_wait
   pub deadline : options.retry.deadline ≡ words.common.timeout
 
--- A run with these arguments came to its end.
+-- A run with these arguments ended.
 pub record Follows (words : SubscribeWords) : Type 0 where
   pub options : SubscribeOptions
   pub options_are : IsRun words options

@@ -1,6 +1,6 @@
 pub mod Delivering
 pub mod Feeding
 pub mod Following
-pub mod Polling
+pub mod Inside
 pub mod Prelude
 pub mod Status

@@ -8,5 +8,5 @@ pub use Rattle.mq_stream.specs.Stream.{Arrives}
 pub use Rattle.mq_pubsub_programs.specs.Delivering.{Delivers, IsSupply, Completes, AreWanted}
 pub use Rattle.mq_pubsub_programs.specs.Feeding.{EndsSupply, Supplies, IsUsedUp, coming_of, EndsWith, coming_payloads, payloads_in, rounds_of, EndsInput}
 pub use Rattle.mq_pubsub_programs.specs.Following.{ComesToEnd, Follows, IsRun, request_of}
-pub use Rattle.mq_pubsub_programs.specs.Polling.{HasNoBytes}
+pub use Rattle.mq_pubsub_programs.specs.Inside.Polling.{HasNoBytes}
 pub use Rattle.mq_pubsub_programs.specs.Status.{IsFaultStatus, IsHelp, fault_status, status_of, IsStatus}

@@ -80,7 +80,7 @@ impl<R: Clock + Eprint> Feed<'_, R> {
         }
     }
 
-    // The time that is left before the next message may be taken.
+    // The remaining time before the next message may be taken.
     fn left(&self) -> u64 {
         if self.delay == 0 || self.taken == 0 {
             return 0;

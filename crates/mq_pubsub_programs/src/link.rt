@@ -12,7 +12,7 @@ use mq_client::Connection;
 use mq_pubsub::{RunError, Setup};
 use mq_pubsub_options::Common;
 use mq_pubsub_runs::{Network, PacketStream};
-use mq_stream::{Broken, Elapsed, Stream};
+use mq_stream::{Elapsed, Stream, StreamError};
 use std::alloc::Global;
 use std::io::ErrorKind;
 use std::net::{Net, OpenStream, SocketAddr, ToSocketAddrs};
@@ -132,20 +132,20 @@ impl<'a, R> Link<'a, R> {
 
 impl<'a, R: Net + Clock + Eprint> Link<'a, R> {
     // A connection, whose stream does not end its reads at packets.
-    fn make(&mut self) -> Result<Connection<LinkStream<'a, R>, Elapsed<'a, R>>, Broken> {
+    fn make(&mut self) -> Result<Connection<LinkStream<'a, R>, Elapsed<'a, R>>, StreamError> {
         let Ok(start) = Instant::now(self.rt) else {
-            return Err(Broken);
+            return Err(StreamError);
         };
         let socket = match connect_any(self.rt, self.host, self.port) {
             Ok(socket) => socket,
             Err(failure) => {
                 self.failure = Some(failure);
-                return Err(Broken);
+                return Err(StreamError);
             }
         };
         let Ok(polled) = PolledStream::new(self.alloc, socket, self.watch, self.patience) else {
             self.failure = Some(NoLink::Refused(ErrorKind::OutOfMemory));
-            return Err(Broken);
+            return Err(StreamError);
         };
         Ok(Connection {
             stream: TracedStream::new(self.rt, self.alloc, polled, Setup::limits(), self.is_traced),
@@ -164,7 +164,7 @@ impl<'a, R: Net + Clock + Eprint> Link<'a, R> {
 
 /// Connections for a publisher.
 impl<'a, R: Net + Clock + Eprint> Network<LinkStream<'a, R>, Elapsed<'a, R>> for Link<'a, R> {
-    fn dial(&mut self) -> Result<Connection<LinkStream<'a, R>, Elapsed<'a, R>>, Broken> {
+    fn dial(&mut self) -> Result<Connection<LinkStream<'a, R>, Elapsed<'a, R>>, StreamError> {
         self.make()
     }
 
@@ -185,7 +185,7 @@ impl<'a, R: Net + Clock + Eprint> Network<PacketStream<LinkStream<'a, R>>, Elaps
     for PacketLink<'_, 'a, R> {
     fn dial(
         &mut self,
-    ) -> Result<Connection<PacketStream<LinkStream<'a, R>>, Elapsed<'a, R>>, Broken> {
+    ) -> Result<Connection<PacketStream<LinkStream<'a, R>>, Elapsed<'a, R>>, StreamError> {
         let Connection { stream, clock } = self.0.make()?;
         Ok(Connection {
             stream: PacketStream::new(stream, Setup::limits()),

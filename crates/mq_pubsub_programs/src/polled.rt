@@ -6,7 +6,7 @@ ghost use Rattle.mq_pubsub_programs.specs.Prelude.{Arrives, HasNoBytes};
 use crate::watch::Watch;
 use libc::net::POLLIN;
 use libc::types::pollfd;
-use mq_stream::{Broken, OnInterrupt, ReadOutcome, Stream, write_bytes};
+use mq_stream::{OnInterrupt, ReadOutcome, Stream, StreamError, write_bytes};
 use std::alloc::{AllocError, Global};
 use std::io::{ErrorKind, Read, Write};
 use std::os::fd::AsRawFd;
@@ -144,7 +144,7 @@ impl<T: Read + Write + AsRawFd> Stream for PolledStream<'_, T> {
         self.hand(buffer)
     }
 
-    fn write_all(&mut self, bytes: &[u8]) -> Result<(), Broken> {
+    fn write_all(&mut self, bytes: &[u8]) -> Result<(), StreamError> {
         write_bytes(&mut self.socket, bytes, &mut OnInterrupt)
     }
 }

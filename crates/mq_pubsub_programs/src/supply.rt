@@ -108,7 +108,7 @@ impl InputLines {
         }
     }
 
-    // Takes the bytes that are left, if there are any.
+    // Takes the remaining bytes, if there are any.
     #[tactic(auto, using(crate::proofs::Lines::is_empty))]
     fn take_rest(&mut self, alloc: Global) -> Result<InputLine, RunError>
         requires { self.old.is_ended ≡ true }

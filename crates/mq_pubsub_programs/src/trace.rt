@@ -2,7 +2,7 @@
 
 use mq_decode::{Decoder, Limits};
 use mq_packet::{Connect, Escaped, Packet, Publish};
-use mq_stream::{Broken, ReadOutcome, Stream};
+use mq_stream::{ReadOutcome, Stream, StreamError};
 use std::alloc::Global;
 
 /// A stream that prints its packets to standard error, if that is wanted.
@@ -97,7 +97,7 @@ impl<S: Stream, R: Eprint> Stream for TracedStream<'_, S, R> {
         outcome
     }
 
-    fn write_all(&mut self, bytes: &[u8]) -> Result<(), Broken> {
+    fn write_all(&mut self, bytes: &[u8]) -> Result<(), StreamError> {
         if self.is_on {
             trace(self.rt, self.alloc, "sent", &mut self.sent, bytes);
         }

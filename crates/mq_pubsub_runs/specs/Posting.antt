@@ -1,4 +1,4 @@
--- What a publisher does, over one connection after another.
+-- The run of a publisher, over one connection after another.
 use Rattle.std.specs.Prelude.{◌≡◌, ⊤, ℕ, Bool, true, false, List, [], ◌∷◌, ◌++◌, map, Option, None, Result, Ok, Err, option_to_list}
 use Rattle.std.specs.List.{filter}
 use Rattle.std.specs.Io.KnownBytes.{Appends}
@@ -23,38 +23,41 @@ abbrev pub unstored : List Message → List Message
 unstored messages = filter (λ message. is_q0 message.qos) messages
 
 -- Messages were published, and then the whole output was sent.
-pub record Sent (a b : Moment) (messages : List Message) : Type 0 where
+pub record Sent (start end : Moment) (messages : List Message) : Type 0 where
   pub last : Moment
-  pub published : Went a last (map Publication messages) [] []
-  pub whole : Appends last.written b.written last.client.link.output
-  pub after : Went last b [] [] []
+  pub published : Went start last (map Publication messages) [] []
+  pub whole : Appends last.written end.written last.client.link.output
+  pub after : Went last end [] [] []
 
 -- From one moment to another a publisher published these messages, in order, over one connection
 -- after another. The second list has those of QoS 0 that may not have been written.
-pub data Posted (a : Moment) : Moment → List Message → List Message → Type 0 where
-  Begins : Posted a a [] []
+pub data Posted (start : Moment) : Moment → List Message → List Message → Type 0 where
+  Begins : Posted start start [] []
   -- A connection begins. A session is discarded only if it has no unacknowledged message (3.1.2.4).
-  Opens : (b c : Moment) (messages lost : List Message) (clean : Bool) → Posted a b messages lost → (clean ≡ true → IsIdle b.client.link.end)
-      → WentFirst b c (Opening clean ∷ []) [] [] → Posted a c messages lost
+  Opens : (between end : Moment) (messages lost : List Message) (clean : Bool) → Posted start between messages lost
+      → (clean ≡ true → IsIdle between.client.link.end)
+      → WentFirst between end (Opening clean ∷ []) [] [] → Posted start end messages lost
   -- messages are published, and the whole output is sent
-  Sends : (b c : Moment) (messages lost more : List Message) → Posted a b messages lost → Sent b c more → Posted a c (messages ++ more) lost
+  Sends : (between end : Moment) (messages lost more : List Message) → Posted start between messages lost → Sent between end more
+      → Posted start end (messages ++ more) lost
   -- messages are published, and the output is sent in part, or not
-  Breaks : (b c : Moment) (messages lost more : List Message) → Posted a b messages lost → Went b c (map Publication more) [] []
-      → Posted a c (messages ++ more) (lost ++ unstored more)
+  Breaks : (between end : Moment) (messages lost more : List Message) → Posted start between messages lost → Went between end (map Publication more) [] []
+      → Posted start end (messages ++ more) (lost ++ unstored more)
   -- packets are received, and answered
-  Hears : (b c : Moment) (messages lost : List Message) (told : List Happening) (reasons : List CloseReason) → Posted a b messages lost
-      → Went b c [] told reasons → Posted a c messages lost
+  Hears : (between end : Moment) (messages lost : List Message) (told : List Happening) (reasons : List CloseReason) → Posted start between messages lost
+      → Went between end [] told reasons → Posted start end messages lost
   -- a new connection continues with the session
-  Continues : (b c : Moment) (messages lost : List Message) → Posted a b messages lost → c.client ≡ b.client → c.kept ≡ b.kept → Posted a c messages lost
+  Continues : (between end : Moment) (messages lost : List Message) → Posted start between messages lost
+      → end.client ≡ between.client → end.kept ≡ between.kept → Posted start end messages lost
 
 -- Messages were taken from a source and published. `next` and `later` are the messages that were
 -- taken and not published, before and after. `lost` and `missing` count the messages of QoS 0 that
 -- may not have been written, before and after.
-pub record Progress (a b : Moment) (next later : Option Message) (lost missing : ℕ) (coming left : Option (List Message)) : Type 0 where
+pub record Progress (start end : Moment) (next later : Option Message) (lost missing : ℕ) (coming left : Option (List Message)) : Type 0 where
   pub messages : List Message
   pub unwritten : List Message
   pub fresh : List Message
-  pub posted : Posted a b messages unwritten
+  pub posted : Posted start end messages unwritten
   pub given : Gives coming left fresh
   pub parts : option_to_list next ++ fresh ≡ messages ++ option_to_list later
   pub none_before : missing ≡ 0 → lost ≡ 0
@@ -62,62 +65,62 @@ pub record Progress (a b : Moment) (next later : Option Message) (lost missing :
 
 -- At most the next message was published. `unwritten` and `pending` count those of QoS 0 in the
 -- output, before and after.
-pub record Publishes (a b : Moment) (next later : Option Message) (unwritten pending : ℕ) : Type 0 where
+pub record Publishes (start end : Moment) (next later : Option Message) (unwritten pending : ℕ) : Type 0 where
   pub messages : List Message
-  pub published : Went a b (map Publication messages) [] []
+  pub published : Went start end (map Publication messages) [] []
   pub parts : option_to_list next ≡ messages ++ option_to_list later
   pub none_before : pending ≡ 0 → unwritten ≡ 0
   pub none : pending ≡ 0 → unstored messages ≡ []
 
 -- Messages were taken from a source and published, and the output is not sent yet.
-pub record Fills (a b : Moment) (next later : Option Message) (unwritten pending : ℕ) (coming left : Option (List Message)) : Type 0 where
+pub record Fills (start end : Moment) (next later : Option Message) (unwritten pending : ℕ) (coming left : Option (List Message)) : Type 0 where
   pub messages : List Message
   pub fresh : List Message
-  pub published : Went a b (map Publication messages) [] []
+  pub published : Went start end (map Publication messages) [] []
   pub given : Gives coming left fresh
   pub parts : option_to_list next ++ fresh ≡ messages ++ option_to_list later
   pub none_before : pending ≡ 0 → unwritten ≡ 0
   pub none : pending ≡ 0 → unstored messages ≡ []
 
 -- These messages were published, and the run stopped early.
-pub record PartPosted (a b : Moment) : Type 0 where
+pub record PartPosted (start end : Moment) : Type 0 where
   pub messages : List Message
   pub unwritten : List Message
-  pub posted : Posted a b messages unwritten
+  pub posted : Posted start end messages unwritten
 
 -- the progress so far, if the work over a connection ended early for this reason
 abbrev pub ProgressUntil : Moment → Moment → Option Message → Option Message → ℕ → ℕ → Option (List Message) → Option (List Message) → Stop → Type 0
-ProgressUntil a b next later lost missing coming left (Connection error) = Progress a b next later lost missing coming left
-ProgressUntil a b next later lost missing coming left (Application error) = PartPosted a b
+ProgressUntil start end next later lost missing coming left (Connection error) = Progress start end next later lost missing coming left
+ProgressUntil start end next later lost missing coming left (Application error) = PartPosted start end
 
 -- All messages were published and nothing was lost. Everything is acknowledged, and then the client
 -- left.
-pub record Finishes (a b : Moment) (next : Option Message) (lost : ℕ) (coming left : Option (List Message)) : Type 0 where
+pub record Finishes (start end : Moment) (next : Option Message) (lost : ℕ) (coming left : Option (List Message)) : Type 0 where
   pub last : Moment
-  pub progress : Progress a last next None lost 0 coming left
+  pub progress : Progress start last next None lost 0 coming left
   pub idle : IsIdle last.client.link.end
-  pub leaves : Leaves last b
-  pub whole : Posted last b [] []
+  pub leaves : Leaves last end
+  pub whole : Posted last end [] []
 
 -- The work over a connection is done, or it ended early.
 abbrev pub PublishEnds : Moment → Moment → Option Message → Option Message → ℕ → ℕ → Option (List Message) → Option (List Message) → Result ⊤ Stop → Type 0
-PublishEnds a b next later lost missing coming left (Ok done) = Finishes a b next lost coming left
-PublishEnds a b next later lost missing coming left (Err stop) = ProgressUntil a b next later lost missing coming left stop
+PublishEnds start end next later lost missing coming left (Ok done) = Finishes start end next lost coming left
+PublishEnds start end next later lost missing coming left (Err stop) = ProgressUntil start end next later lost missing coming left stop
 
--- A client and its stored session, at a moment.
-pub record StartsWith (a : Moment) (client : ClientState) (kept : Option (List ℕ)) : Type 0 where
-  pub client_is : a.client ≡ client
-  pub kept_is : a.kept ≡ kept
+-- The client and its stored session at the start.
+pub record StartsWith (start : Moment) (client : ClientState) (kept : Option (List ℕ)) : Type 0 where
+  pub client_is : start.client ≡ client
+  pub kept_is : start.kept ≡ kept
 
 -- Every message that the source gave was published, in order. Each of QoS 0 was sent, and each of
 -- QoS 1 and 2 is acknowledged (4.3.2, 4.3.3). Then the client left.
-pub record AllPosted (a b : Moment) (coming left : Option (List Message)) : Type 0 where
+pub record AllPosted (start end : Moment) (coming left : Option (List Message)) : Type 0 where
   pub last : Moment
   pub messages : List Message
-  pub posted : Posted a last messages []
+  pub posted : Posted start last messages []
   pub given : Gives coming left messages
   pub idle : IsIdle last.client.link.end
-  pub leaves : Leaves last b
+  pub leaves : Leaves last end
 
 -- No message is left to publish: none was taken from the source, and it has ended.
 abbrev pub IsLast : Option Message → Bool → Type 0

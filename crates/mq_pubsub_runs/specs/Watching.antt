@@ -1,4 +1,4 @@
--- What a subscriber does, over one connection after another.
+-- The run of a subscriber, over one connection after another.
 use Rattle.std.specs.Prelude.{◌≡◌, ◌⊎◌, ⊤, true, false, not, List, [], ◌∷◌, ◌++◌, Option, None, Result, Ok, Err, is_some, option_map, option_to_list}
 use Rattle.std.specs.Io.KnownBytes.{Keeps}
 use Rattle.mq_packet.specs.declared.message.Message.{Message}
@@ -16,7 +16,7 @@ use Rattle.mq_pubsub_runs.specs.declared.stop.Stop.TheVariants.{Connection, Appl
 
 -- the subscriptions are not granted any more
 abbrev pub forgets : Inbox → Inbox
-forgets i = record i { is_granted = false }
+forgets inbox = record inbox { is_granted = false }
 
 -- the subscriptions that are requested (3.8)
 abbrev pub subscriptions_of : SubscribeOptions → List Ask
@@ -31,57 +31,64 @@ requests_of options = subscriptions_of options ++ unsubscriptions_of options
 
 -- From one moment to another a subscriber ran, over one connection after another. Bytes are sent
 -- only after everything that was received is printed and flushed.
-pub data Watched (options : SubscribeOptions) (a : Moment) (i : Inbox) (s : Option (List Message)) : Moment → Inbox → Option (List Message) → Type 0 where
-  Begins : Watched options a i s a i s
+pub data Watched (options : SubscribeOptions) (start : Moment) (first : Inbox) (output : Option (List Message)) : Moment → Inbox → Option (List Message) → Type 0 where
+  Begins : Watched options start first output start first output
   -- a connection begins
-  Opens : (b c : Moment) (j : Inbox) (t : Option (List Message)) → Watched options a i s b j t → WentFirst b c (Opening options.clean ∷ []) [] []
-      → Watched options a i s c j t
+  Opens : (earlier later : Moment) (old : Inbox) (before : Option (List Message)) → Watched options start first output earlier old before
+      → WentFirst earlier later (Opening options.clean ∷ []) [] []
+      → Watched options start first output later old before
   -- Bytes are received, and their messages are printed and flushed. Nothing is sent.
-  Reads : (b c : Moment) (j k : Inbox) (t u : Option (List Message)) (told : List Happening) (reasons : List CloseReason) (messages : List Message)
-      → Watched options a i s b j t → Went b c [] told reasons → Keeps b.written c.written
-      → Prints options.choice options.ends_when_granted j told k messages → Shows t u messages → Watched options a i s c k u
+  Reads : (earlier later : Moment) (old new : Inbox) (before after : Option (List Message)) (told : List Happening) (reasons : List CloseReason) (messages : List Message)
+      → Watched options start first output earlier old before → Went earlier later [] told reasons → Keeps earlier.written later.written
+      → Prints options.choice options.ends_when_granted old told new messages → Shows before after messages → Watched options start first output later new after
   -- The requests are made, since they are due, and output is sent. Nothing is received.
-  Requests : (b c : Moment) (j : Inbox) (t : Option (List Message)) → Watched options a i s b j t → j.is_due ≡ true
-      → WentFirst b c (requests_of options) [] [] → Watched options a i s c j t
+  Requests : (earlier later : Moment) (old : Inbox) (before : Option (List Message)) → Watched options start first output earlier old before
+      → old.is_due ≡ true
+      → WentFirst earlier later (requests_of options) [] [] → Watched options start first output later old before
   -- Output is sent. Nothing is received.
-  Sends : (b c : Moment) (j : Inbox) (t : Option (List Message)) → Watched options a i s b j t → Went b c [] [] [] → Watched options a i s c j t
+  Sends : (earlier later : Moment) (old : Inbox) (before : Option (List Message)) → Watched options start first output earlier old before
+      → Went earlier later [] [] [] → Watched options start first output later old before
   -- a new connection continues with the session
-  Continues : (b c : Moment) (j : Inbox) (t : Option (List Message)) → Watched options a i s b j t → c.client ≡ b.client → c.kept ≡ b.kept
-      → Watched options a i s c j t
+  Continues : (earlier later : Moment) (old : Inbox) (before : Option (List Message)) → Watched options start first output earlier old before
+      → later.client ≡ earlier.client → later.kept ≡ earlier.kept
+      → Watched options start first output later old before
   -- the server lost the session, and a new client begins another one
-  Renews : (b c : Moment) (j : Inbox) (t : Option (List Message)) → Watched options a i s b j t → c.client.link.end ≡ blank_end None → c.kept ≡ b.kept
-      → Watched options a i s c (forgets j) t
+  Renews : (earlier later : Moment) (old : Inbox) (before : Option (List Message)) → Watched options start first output earlier old before
+      → later.client.link.end ≡ blank_end None → later.kept ≡ earlier.kept
+      → Watched options start first output later (forgets old) before
 
 -- The messages of the last read may not be printed. Nothing was sent since, so they are not
 -- acknowledged.
-pub record Unprinted (options : SubscribeOptions) (a : Moment) (i : Inbox) (s : Option (List Message)) (c : Moment) : Type 0 where
+pub record Unprinted (options : SubscribeOptions) (start : Moment) (first : Inbox) (output : Option (List Message)) (end : Moment) : Type 0 where
   pub last : Moment
   pub inbox : Inbox
   pub shown : Option (List Message)
-  pub before : Watched options a i s last inbox shown
+  pub before : Watched options start first output last inbox shown
   pub told : List Happening
   pub reasons : List CloseReason
-  pub after : Went last c [] told reasons
-  pub silent : Keeps last.written c.written
+  pub after : Went last end [] told reasons
+  pub silent : Keeps last.written end.written
 
 -- the run so far, if it stopped for this reason
 abbrev pub WatchedUntil : SubscribeOptions → Moment → Inbox → Option (List Message) → Moment → Inbox → Option (List Message) → Stop → Type 0
-WatchedUntil options a i s b j t (Connection error) = Watched options a i s b j t
-WatchedUntil options a i s b j t (Application error) = Unprinted options a i s b
+WatchedUntil options start first output end last printed (Connection error) = Watched options start first output end last printed
+WatchedUntil options start first output end last printed (Application error) = Unprinted options start first output end
 
--- the work over a connection came to the end of the run, or ended early
+-- the work over a connection reached the end of the run, or ended early
 abbrev pub SubscribeEnds : SubscribeOptions → Moment → Inbox → Option (List Message) → Moment → Inbox → Option (List Message) → Result ⊤ Stop → Type 0
-SubscribeEnds options a i s b j t (Ok done) = Watched options a i s b j t × (j.is_ended ≡ true)
-SubscribeEnds options a i s b j t (Err stop) = WatchedUntil options a i s b j t stop
+SubscribeEnds options start first output end last printed (Ok done) = Watched options start first output end last printed × (last.is_ended ≡ true)
+SubscribeEnds options start first output end last printed (Err stop) = WatchedUntil options start first output end last printed stop
 
 -- the run so far: everything that was received is printed, but for the last read, if the printer
 -- failed
 abbrev pub WatchedPart : SubscribeOptions → Moment → Inbox → Option (List Message) → Option (List Message) → Type 0
-WatchedPart options a i s u = ((b : Moment) × (j : Inbox) × Watched options a i s b j u) ⊎ ((b : Moment) × Unprinted options a i s b)
+WatchedPart options start first output printed =
+    ((end : Moment) × (last : Inbox) × Watched options start first output end last printed)
+    ⊎ ((end : Moment) × Unprinted options start first output end)
 
 -- The client stays, or a new one takes its place.
 abbrev pub Stays : ClientState → ClientState → Inbox → Inbox → Type 0
-Stays c d i j = ((d ≡ c) × (j ≡ i)) ⊎ ((d.link.end ≡ blank_end None) × (j ≡ forgets i))
+Stays old new inbox later = ((new ≡ old) × (later ≡ inbox)) ⊎ ((new.link.end ≡ blank_end None) × (later ≡ forgets inbox))
 
 -- a subscriber that begins
 abbrev pub first_inbox : SubscribeOptions → Inbox

@@ -3,7 +3,7 @@
 ghost use Rattle.std.specs.Prelude.{◌≡◌, ◌<◌, ◌-◌, length, max, min};
 
 use mq_decode::{Limits, packet_len};
-use mq_stream::{Broken, ReadOutcome, Stream};
+use mq_stream::{ReadOutcome, Stream, StreamError};
 
 /// The maximum number of bytes of a fixed header (2.2).
 const MOST_HEADER: usize = 5;
@@ -101,7 +101,7 @@ impl<S: Stream> Stream for PacketStream<S> {
         outcome
     }
 
-    fn write_all(&mut self, bytes: &[u8]) -> Result<(), Broken> {
+    fn write_all(&mut self, bytes: &[u8]) -> Result<(), StreamError> {
         self.inner.write_all(bytes)
     }
 }

@@ -256,12 +256,12 @@ pub fn publish<S: Stream + Drop, C: Clock + Drop, K: SessionSaver, N: Network<S,
     source: &mut M,
     options: PublishOptions,
 ) -> Published<K>
-    ensures ok { OnOk result.end ((a : Moment) × (b : Moment)
-        × StartsWith a client (K.kept keeper) × StartsWith b result.client (K.kept result.keeper)
-        × AllPosted a b (M.coming source.old) (M.coming source.new)) }
-    ensures err { OnErr result.end ((a : Moment) × (b : Moment)
-        × StartsWith a client (K.kept keeper) × StartsWith b result.client (K.kept result.keeper)
-        × PartPosted a b) }
+    ensures ok { OnOk result.end ((start : Moment) × (end : Moment)
+        × StartsWith start client (K.kept keeper) × StartsWith end result.client (K.kept result.keeper)
+        × AllPosted start end (M.coming source.old) (M.coming source.new)) }
+    ensures err { OnErr result.end ((start : Moment) × (end : Moment)
+        × StartsWith start client (K.kept keeper) × StartsWith end result.client (K.kept result.keeper)
+        × PartPosted start end) }
     ensures ended { OnOk result.end (M.ended source.new) }
 {
     let mut outbox = Outbox::new(&client);

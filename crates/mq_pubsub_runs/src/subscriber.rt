@@ -353,14 +353,14 @@ pub fn subscribe<S: Stream + Drop, C: Clock + Drop, K: SessionSaver, N: Network<
     options: &SubscribeOptions<'_>,
     printer: &mut P,
 ) -> Subscribed<K>
-    ensures ok { OnOk result.end ((a : Moment) × StartsWith a client (K.kept keeper)
-        × (b : Moment) × Watched options.now
-        a (first_inbox options.now) (P.shown printer.old)
-        b result.inbox (P.shown printer.new)) }
+    ensures ok { OnOk result.end ((start : Moment) × StartsWith start client (K.kept keeper)
+        × (end : Moment) × Watched options.now
+        start (first_inbox options.now) (P.shown printer.old)
+        end result.inbox (P.shown printer.new)) }
     ensures ended { OnOk result.end (result.inbox.is_ended ≡ true) }
-    ensures err { OnErr result.end ((a : Moment) × StartsWith a client (K.kept keeper)
+    ensures err { OnErr result.end ((start : Moment) × StartsWith start client (K.kept keeper)
         × WatchedPart options.now
-        a (first_inbox options.now) (P.shown printer.old) (P.shown printer.new)) }
+        start (first_inbox options.now) (P.shown printer.old) (P.shown printer.new)) }
 {
     let mut inbox = first_inbox(options);
     let mut redial = Redial::new(options.retry);

@@ -79,9 +79,9 @@ pub fn discard<S: Stream + Drop, C: Clock + Drop, N: Network<S, C>>(
     network: &mut N,
     retry: Retry,
 ) -> Result<(), RunError>
-    ensures { OnOk result ((a : Moment) × (b : Moment)
-        × (a.client.config.id ≡ setup.now.id) × (a.client.link.end ≡ blank_end None)
-        × Discards a b) }
+    ensures { OnOk result ((start : Moment) × (end : Moment)
+        × (start.client.config.id ≡ setup.now.id) × (start.client.link.end ≡ blank_end None)
+        × Discards start end) }
 {
     let client = setup.client(alloc)?;
     let Ok(connection) = network.dial() else {

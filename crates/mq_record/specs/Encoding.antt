@@ -8,10 +8,10 @@ use Rattle.mq_route.specs.declared.event.HubEvent.TheVariants.{Opened, Bytes, En
 
 -- a number in four bytes, and in eight
 abbrev pub four_bytes : ℕ → List ℕ
-four_bytes n = number (n / 65536) ++ number (n % 65536)
+four_bytes value = number (value / 65536) ++ number (value % 65536)
 
 abbrev pub eight_bytes : ℕ → List ℕ
-eight_bytes n = four_bytes (n / 4294967296) ++ four_bytes (n % 4294967296)
+eight_bytes value = four_bytes (value / 4294967296) ++ four_bytes (value % 4294967296)
 
 -- the name of a connection
 abbrev pub conn_bytes : Conn → List ℕ

@@ -35,12 +35,12 @@ published_line side (Err why) = line_of side (codes "refused " ++ refusal_code w
 
 -- A delivered message: its QoS, topic and payload.
 abbrev pub handed_text : Message → List ℕ
-handed_text m = codes "got " ++ (decimal (qos_number m.qos) ++ (codes " " ++ (escaped m.topic ++ (codes " " ++ bytes_word m.payload))))
+handed_text message = codes "got " ++ (decimal (qos_number message.qos) ++ (codes " " ++ (escaped message.topic ++ (codes " " ++ bytes_word message.payload))))
 
 -- An event of an end. No event of a world makes an end subscribe.
 abbrev pub happening_line : Side → Happening → List ℕ
 happening_line side (Up present) = line_of side (codes "up " ++ truth present)
-happening_line side (Handed m) = line_of side (handed_text m)
+happening_line side (Handed message) = line_of side (handed_text message)
 happening_line side (Subscribe id requests) = []
 happening_line side (Unsubscribe id filters) = []
 happening_line side (SubAck id given) = []
@@ -84,7 +84,9 @@ bytes_line side bytes = codes "to " ++ line_of side (bytes_word bytes)
 
 -- The bytes, whether they were lost, and their effect.
 abbrev pub delivery_lines : Delivery → List ℕ
-delivery_lines d = bytes_line d.side d.bytes ++ (lost_line d.lost ++ (flat_map (happening_line d.side) d.progress.happenings ++ closed_line d.side d.progress.closed))
+delivery_lines delivery =
+    bytes_line delivery.side delivery.bytes
+    ++ (lost_line delivery.lost ++ (flat_map (happening_line delivery.side) delivery.progress.happenings ++ closed_line delivery.side delivery.progress.closed))
 
 abbrev pub refused_line : Bool → List ℕ
 refused_line false = []
@@ -92,23 +94,23 @@ refused_line true = line_of Client (codes "refused P5")
 
 -- the connections that are lost, and whether the new one was refused
 abbrev pub opening_lines : Opening → List ℕ
-opening_lines o = dropped_line Client o.client_dropped ++ (dropped_line Server o.server_dropped ++ refused_line o.refused)
+opening_lines opening = dropped_line Client opening.client_dropped ++ (dropped_line Server opening.server_dropped ++ refused_line opening.refused)
 
 abbrev pub idle_line : Bool → List ℕ
 idle_line true = codes "idle yes\n"
 idle_line false = codes "idle no\n"
 
 abbrev pub settling_lines : Settling → List ℕ
-settling_lines s = opening_lines s.opening ++ (flat_map delivery_lines s.deliveries ++ idle_line s.idle)
+settling_lines settling = opening_lines settling.opening ++ (flat_map delivery_lines settling.deliveries ++ idle_line settling.idle)
 
 -- ---- All answers
 
 abbrev pub answer_lines : Answer → List ℕ
 answer_lines (answers.Published side outcome) = published_line side outcome
-answer_lines (answers.Delivered d) = delivery_lines d
+answer_lines (answers.Delivered delivery) = delivery_lines delivery
 answer_lines (answers.Dropped side was_open) = dropped_line side was_open
 answer_lines (answers.Restarted was_open outcome) = restarted_lines was_open outcome
 answer_lines (answers.Left outcome) = left_line outcome
-answer_lines (answers.Opened o) = opening_lines o
+answer_lines (answers.Opened opening) = opening_lines opening
 answer_lines (answers.Ticked side outcome) = ticked_line side outcome
-answer_lines (answers.Settled s) = settling_lines s
+answer_lines (answers.Settled settling) = settling_lines settling

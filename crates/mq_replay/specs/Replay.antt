@@ -30,9 +30,9 @@ StepDoes limit capacity Settle answer old new = Settles limit capacity answer ol
 -- Steps one after another, each with its answer.
 abbrev pub StepsLead : Bounds → ℕ → List Step → List Answer → Wired → Wired → Type 0
 StepsLead limit capacity [] [] old new = new ≡ old
-StepsLead limit capacity (s ∷ ss) (a ∷ rest) old new = (mid : Wired) × StepDoes limit capacity s a old mid × StepsLead limit capacity ss rest mid new
-StepsLead limit capacity [] (a ∷ rest) old new = ⊥
-StepsLead limit capacity (s ∷ ss) [] old new = ⊥
+StepsLead limit capacity (step ∷ steps) (answer ∷ rest) old new = (mid : Wired) × StepDoes limit capacity step answer old mid × StepsLead limit capacity steps rest mid new
+StepsLead limit capacity [] (answer ∷ rest) old new = ⊥
+StepsLead limit capacity (step ∷ steps) [] old new = ⊥
 
 -- from a new world
 pub record Comes (limit : Bounds) (capacity : ℕ) (window : Option ℕ) (steps : List Step) (answers : List Answer) (end : Wired) : Type 0 where
@@ -45,31 +45,31 @@ pub record Comes (limit : Bounds) (capacity : ℕ) (window : Option ℕ) (steps 
 
 -- The number of messages that the sender of a side stores, 0 without a session.
 abbrev pub held_count : Qos → Side → Wired → ℕ
-held_count q Client w = length (held q w.client.state.end.book.entries)
-held_count q Server w = if w.server.state.end.known then length (held q w.server.state.end.book.entries) else 0
+held_count qos Client world = length (held qos world.client.state.end.book.entries)
+held_count qos Server world = if world.server.state.end.known then length (held qos world.server.state.end.book.entries) else 0
 
 abbrev pub total_line : Side → Side → Qos → Wired → List ℕ
-total_line from to q w = side_word from ++ (codes ">" ++ (side_word to ++ (codes " qos" ++ (decimal (qos_number q) ++ (codes " accepted " ++ (decimal (accepted_count q (near from w).accepted)
-    ++ (codes " handed " ++ (decimal (handed_count q (near to w).handed) ++ (codes " held " ++ (decimal (held_count q from w) ++ codes "\n"))))))))))
+total_line from to qos world = side_word from ++ (codes ">" ++ (side_word to ++ (codes " qos" ++ (decimal (qos_number qos) ++ (codes " accepted "
+    ++ (decimal (accepted_count qos (near from world).accepted) ++ (codes " handed " ++ (decimal (handed_count qos (near to world).handed) ++ (codes " held " ++ (decimal (held_count qos from world) ++ codes "\n"))))))))))
 
 abbrev pub last_lines : Wired → List ℕ
-last_lines w = total_line Client Server Q1 w ++ (total_line Client Server Q2 w ++ (total_line Server Client Q1 w ++ total_line Server Client Q2 w))
+last_lines world = total_line Client Server Q1 world ++ (total_line Client Server Q2 world ++ (total_line Server Client Q1 world ++ total_line Server Client Q2 world))
 
 -- ---- a replay
 
 -- The output of a schedule: the answers of its steps, and the last lines.
-pub record IsReplay (s : Schedule) (text : List ℕ) : Type 0 where
+pub record IsReplay (schedule : Schedule) (text : List ℕ) : Type 0 where
   pub answers : List Answer
   pub end : Wired
-  pub comes : Comes s.limits (non_zero_u16_get s.capacity) (number_of s.window) s.steps.items answers end
+  pub comes : Comes schedule.limits (non_zero_u16_get schedule.capacity) (number_of schedule.window) schedule.steps.items answers end
   pub text_is : text ≡ flat_map answer_lines answers ++ last_lines end
 
 -- The output if an allocation fails: the answers of its first steps.
-pub record IsCutReplay (s : Schedule) (text : List ℕ) : Type 0 where
+pub record IsCutReplay (schedule : Schedule) (text : List ℕ) : Type 0 where
   pub done : List Step
   pub left : List Step
-  pub steps : s.steps.items ≡ done ++ left
+  pub steps : schedule.steps.items ≡ done ++ left
   pub answers : List Answer
   pub end : Wired
-  pub comes : Comes s.limits (non_zero_u16_get s.capacity) (number_of s.window) done answers end
+  pub comes : Comes schedule.limits (non_zero_u16_get schedule.capacity) (number_of schedule.window) done answers end
   pub text_is : text ≡ flat_map answer_lines answers

@@ -56,10 +56,10 @@ pub record IsAccept (placing : Placing) : Type 0 where
   pub there : list_any (λ s. s.key == placing.key) placing.at.hub.sessions ≡ true
   pub room : is_full placing.at.hub.config.capacity (end_of placing.key placing.at.hub.sessions).book ≡ false
   pub bytes : leaves placing.at.hub.config.most_stored (stored_bytes (end_of placing.key placing.at.hub.sessions).book) (message_bytes placing.message) ≡ true
-  pub first : let e = end_of placing.key placing.at.hub.sessions in IsFirstFree e.last e.book (next_identifier e.last e.book)
-  pub accepts : let e = end_of placing.key placing.at.hub.sessions in
-      let identifier = next_identifier e.last e.book in
-      end_of placing.key (place placing.key placing.message placing.at).hub.sessions ≡ record e { book = accept identifier placing.message (is_up e.state) e.book; last = identifier }
+  pub first : let end = end_of placing.key placing.at.hub.sessions in IsFirstFree end.last end.book (next_identifier end.last end.book)
+  pub accepts : let end = end_of placing.key placing.at.hub.sessions in
+      let identifier = next_identifier end.last end.book in
+      end_of placing.key (place placing.key placing.message placing.at).hub.sessions ≡ record end { book = accept identifier placing.message (is_up end.state) end.book; last = identifier }
 
 -- the client misses the copy
 abbrev pub is_miss : Placing → Bool
@@ -89,7 +89,7 @@ marked_for client (placing ∷ later) =
 -- the copies of a list
 abbrev pub placings : List (ℕ × Message) → Work → List Placing
 placings [] work = []
-placings (x ∷ xs) work = record { key = x.0; message = x.1; at = work } ∷ placings xs (place x.0 x.1 work)
+placings (first ∷ rest) work = record { key = first.0; message = first.1; at = work } ∷ placings rest (place first.0 first.1 work)
 
 -- the copies of a published message, after its act
 abbrev pub in_share : Act → Message → Work → List Placing
@@ -186,11 +186,11 @@ in_comes limits conn bytes start stop (Starves rest fits work on some) = in_clos
 in_comes limits conn bytes start stop (LetsGo rest work closed) = []
 
 -- the copies that a tick places
-abbrev pub in_ticks : (within : Option ℕ) (now : ℕ) (xs : List HubConnection) (start stop : Work) → Ticks within now xs start stop → List Placing
-in_ticks within now xs start stop (Done work) = []
-in_ticks within now xs start stop (InTime x ys work last soon more) = in_ticks within now ys work last more
-in_ticks within now xs start stop (Late x ys why fits work last late more) =
-    in_close x.conn why fits work ++ in_ticks within now ys (close x.conn why fits work) last more
+abbrev pub in_ticks : (within : Option ℕ) (now : ℕ) (connections : List HubConnection) (start stop : Work) → Ticks within now connections start stop → List Placing
+in_ticks within now connections start stop (Done work) = []
+in_ticks within now connections start stop (InTime connection rest work last soon more) = in_ticks within now rest work last more
+in_ticks within now connections start stop (Late connection rest why fits work last late more) =
+    in_close connection.conn why fits work ++ in_ticks within now rest (close connection.conn why fits work) last more
 
 -- the copies that a step places
 abbrev pub in_step : (hub : HubState) (event : HubEvent) (reply : HubReply) (work : Work) → Does hub event reply work → List Placing

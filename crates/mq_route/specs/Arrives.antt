@@ -39,12 +39,12 @@ pub record Growth : Type 0 where
 
 -- each request is granted the QoS that it asks for (3.9.3)
 abbrev pub granted : List Request → List SubAckCode
-granted rs = map (λ r. Granted r.qos) rs
+granted requests = map (λ r. Granted r.qos) requests
 
 -- the copies that a report of the client's end makes due
 abbrev pub due_by : ℕ → HubState → Happening → List (ℕ × Message)
 due_by key hub (happens.Handed message) = copies_of message hub
-due_by key hub (happens.Subscribe i requests) = retained_copies key requests hub.retained
+due_by key hub (happens.Subscribe identifier requests) = retained_copies key requests hub.retained
 due_by key hub told = []
 
 abbrev pub due : ℕ → HubState → List Happening → List (ℕ × Message)
@@ -57,13 +57,13 @@ answers conn key (happens.Up present) work = said (acts.Up conn key present) wor
 -- a message is published: it is taken, retained and placed (3.3.1.3, 3.3.5)
 answers conn key (happens.Handed message) work = deliver (acts.Took key message) message work
 -- SUBSCRIBE: the subscriptions are stored, then SUBACK is sent, then the retained messages (3.8.4)
-answers conn key (happens.Subscribe i requests) work =
-    place_all (retained_copies key requests work.hub.retained) (does key (subacks i (granted requests)) (subscribed key requests work))
+answers conn key (happens.Subscribe identifier requests) work =
+    place_all (retained_copies key requests work.hub.retained) (does key (subacks identifier (granted requests)) (subscribed key requests work))
 -- UNSUBSCRIBE: the subscriptions are removed, and UNSUBACK is sent even if there were none (3.10.4)
-answers conn key (happens.Unsubscribe i filters) work = does key (unsubacks i) (unsubscribed key filters work)
+answers conn key (happens.Unsubscribe identifier filters) work = does key (unsubacks identifier) (unsubscribed key filters work)
 -- a server end reports nothing else
-answers conn key (happens.SubAck i codes) work = work
-answers conn key (happens.UnsubAck i) work = work
+answers conn key (happens.SubAck identifier codes) work = work
+answers conn key (happens.UnsubAck identifier) work = work
 answers conn key happens.Pong work = work
 
 abbrev pub answers_all : Conn → ℕ → List Happening → Work → Work
@@ -90,7 +90,7 @@ on_passed_packet conn key packet fits work =
 
 -- a SUBSCRIBE has too many filters for the number of retained messages (3.8.4)
 abbrev pub is_too_broad : Packet → HubState → Bool
-is_too_broad (packets.Subscribe i requests) hub = not (leaves hub.config.most_matches 0 (length requests * length hub.retained))
+is_too_broad (packets.Subscribe identifier requests) hub = not (leaves hub.config.most_matches 0 (length requests * length hub.retained))
 is_too_broad packet hub = false
 
 -- a SUBSCRIBE that is too broad does nothing but close its connection
@@ -103,7 +103,7 @@ on_connected_packet conn key packet fits work =
 
 -- the session's end takes the CONNECT on a new connection (3.1.4, 3.2)
 abbrev pub greeting : Connect → End → Reply
-greeting connect e = server_gets (packets.Connect connect) (opens e).end
+greeting connect end = server_gets (packets.Connect connect) (opens end).end
 
 -- the part of a CONNECT that applies while its connection is connected
 abbrev pub terms_of : Connect → ConnectionTerms

@@ -24,23 +24,23 @@ use Rattle.mq_route.specs.Step.{holding, Comes, Arrives, Waits, Breaks, Starves,
 use Rattle.mq_route.specs.Runs.{Episode, Follows}
 
 unfoldable pub dropped_by : Act → List ℕ
-dropped_by (acts.WillDropped c) = c ∷ []
-dropped_by (acts.Up k c present) = []
-dropped_by (acts.Took c m) = []
-dropped_by (acts.Placed c m) = []
-dropped_by (acts.Missed c m) = []
-dropped_by (acts.Subscribed c f q) = []
-dropped_by (acts.Unsubscribed c f) = []
-dropped_by (acts.Will c m) = []
-dropped_by (acts.Closed k why) = []
-dropped_by (acts.Removed c) = []
+dropped_by (acts.WillDropped client) = client ∷ []
+dropped_by (acts.Up conn client present) = []
+dropped_by (acts.Took client message) = []
+dropped_by (acts.Placed client message) = []
+dropped_by (acts.Missed client message) = []
+dropped_by (acts.Subscribed client topic_filter qos) = []
+dropped_by (acts.Unsubscribed client topic_filter) = []
+dropped_by (acts.Will client message) = []
+dropped_by (acts.Closed conn why) = []
+dropped_by (acts.Removed client) = []
 
 -- the clients whose wills are dropped
 abbrev pub dropped : List Act → List ℕ
 dropped log = flat_map dropped_by log
 
 abbrev pub is_in : ℕ → List ℕ → Bool
-is_in client clients = list_any (λ c. c == client) clients
+is_in client clients = list_any (λ other. other == client) clients
 
 -- a client's connection is closed, and its session is disconnected, or removed after clean session
 -- 1
@@ -72,11 +72,11 @@ ComesLosing policy client limits conn bytes start stop (Starves rest fits work o
 ComesLosing policy client limits conn bytes start stop (LetsGo rest work closed) = ⊥
 
 -- the client loses its will when one of the late connections closes
-abbrev pub TicksLosing : WhenFull → ℕ → (within : Option ℕ) (now : ℕ) (xs : List HubConnection) (start stop : Work) → Ticks within now xs start stop → Type 0
-TicksLosing policy client within now xs start stop (Done work) = ⊥
-TicksLosing policy client within now xs start stop (InTime x ys work last soon more) = TicksLosing policy client within now ys work last more
-TicksLosing policy client within now xs start stop (Late x ys why fits work last late more) =
-    LosesWill policy client fits work ⊎ TicksLosing policy client within now ys (close x.conn why fits work) last more
+abbrev pub TicksLosing : WhenFull → ℕ → (within : Option ℕ) (now : ℕ) (connections : List HubConnection) (start stop : Work) → Ticks within now connections start stop → Type 0
+TicksLosing policy client within now connections start stop (Done work) = ⊥
+TicksLosing policy client within now connections start stop (InTime connection rest work last soon more) = TicksLosing policy client within now rest work last more
+TicksLosing policy client within now connections start stop (Late connection rest why fits work last late more) =
+    LosesWill policy client fits work ⊎ TicksLosing policy client within now rest (close connection.conn why fits work) last more
 
 -- the client loses its will in the event
 abbrev pub IsLosingEvent : ℕ → (hub : HubState) (event : HubEvent) (reply : HubReply) (work : Work) → Does hub event reply work → Type 0

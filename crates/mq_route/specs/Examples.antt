@@ -29,7 +29,7 @@ abbrev pub fine : Growth
 fine = record { fits = true; will_fits = true }
 
 abbrev pub conn : ℕ → Conn
-conn n = record { worker = 0; nth = n }
+conn number = record { worker = 0; nth = number }
 
 abbrev pub config : HubConfig
 config = record { limits = strict 1000; capacity = 10; window = None; max_conns = 10; max_sessions = 10; users = None; hashed_users = None; when_full = ClosePublisher; connect_within = None; session_expiry = None; most_stored = None; most_waiting = None; most_matches = None }
@@ -39,25 +39,25 @@ abbrev pub hello : List ℕ → Bool → Option Will → Packet
 hello client clean will = packets.Connect (record { client_id = client; clean_session = clean; keep_alive = 0; will = will; login = None })
 
 abbrev pub msg : List ℕ → List ℕ → Qos → Bool → Message
-msg t p q r = record { topic = t; payload = p; qos = q; retain = r }
+msg topic payload qos retain = record { topic = topic; payload = payload; qos = qos; retain = retain }
 
 abbrev pub publish0 : Message → Packet
-publish0 m = packets.Publish (record { message = m; delivery = None })
+publish0 message = packets.Publish (record { message = message; delivery = None })
 
 abbrev pub publish : ℕ → Message → Packet
-publish i m = packets.Publish (record { message = m; delivery = Some (record { id = i; dup = false }) })
+publish identifier message = packets.Publish (record { message = message; delivery = Some (record { id = identifier; dup = false }) })
 
 abbrev pub ask : List ℕ → Qos → Request
-ask f q = record { filter = f; qos = q }
+ask topic_filter qos = record { filter = topic_filter; qos = qos }
 
 -- packets arrive, each on its connection
 abbrev pub run : List (ℕ × Packet) → Work → Work
-run [] w = w
-run (x ∷ xs) w = run xs (takes (conn x.0) x.1 fine w)
+run [] work = work
+run (first ∷ rest) work = run rest (takes (conn first.0) first.1 fine work)
 
 -- connections 1, 2 and 3 are open
 abbrev pub open_three : HubConfig → Work
-open_three c = begin (opened (conn 3) (opened (conn 2) (opened (conn 1) (new_hub c))))
+open_three settings = begin (opened (conn 3) (opened (conn 2) (opened (conn 1) (new_hub settings))))
 
 -- ---- runs
 

@@ -32,26 +32,26 @@ use Rattle.mq_route.specs.Runs.{Episode, Follows, acts_of}
 
 -- the connection, if this is the reason for its close
 abbrev pub if_full : HubClose → Conn → List Conn
-if_full TargetFull k = k ∷ []
-if_full (Own reason) k = []
-if_full TakenOver k = []
-if_full PeerEnded k = []
-if_full NoConnect k = []
-if_full TooManyMatches k = []
+if_full TargetFull conn = conn ∷ []
+if_full (Own reason) conn = []
+if_full TakenOver conn = []
+if_full PeerEnded conn = []
+if_full NoConnect conn = []
+if_full TooManyMatches conn = []
 
 -- the connections that close because a session is full
 abbrev pub full_closes : List Act → List Conn
 full_closes log = closes_for if_full log
 
 abbrev pub IsPublishOrSubscribe : Packet → Type 0
-IsPublishOrSubscribe (packets.Publish p) = Unit {0}
-IsPublishOrSubscribe (packets.Subscribe i requests) = Unit {0}
-IsPublishOrSubscribe p = ⊥
+IsPublishOrSubscribe (packets.Publish packet) = Unit {0}
+IsPublishOrSubscribe (packets.Subscribe identifier requests) = Unit {0}
+IsPublishOrSubscribe packet = ⊥
 
 -- the acts that a client's end asks for: its message is taken, or it subscribes to each filter
 abbrev pub asked_by : ℕ → Happening → List Act
-asked_by key (happens.Handed m) = acts.Took key m ∷ []
-asked_by key (happens.Subscribe i requests) = map (λ r. acts.Subscribed key r.filter r.qos) requests
+asked_by key (happens.Handed message) = acts.Took key message ∷ []
+asked_by key (happens.Subscribe identifier requests) = map (λ request. acts.Subscribed key request.filter request.qos) requests
 asked_by key other = []
 
 abbrev pub asked : ℕ → List Happening → List Act
@@ -59,23 +59,23 @@ asked key happenings = flat_map (asked_by key) happenings
 
 -- the number of packet identifiers that these messages need (2.3.1)
 abbrev pub identifiers_for : List Message → ℕ
-identifiers_for ms = count_by (λ m. has_identifier m.qos) ms
+identifiers_for messages = count_by (λ m. has_identifier m.qos) messages
 
 -- the number of bytes of these messages that a session stores
 abbrev pub bytes_for : List Message → ℕ
-bytes_for ms = sum_by (λ m. if has_identifier m.qos then message_bytes m else 0) ms
+bytes_for messages = sum_by (λ message. if has_identifier message.qos then message_bytes message else 0) messages
 
 -- the session has fewer identifiers free than these messages need (2.3.1), or may not store their
 -- bytes
 abbrev pub IsShortOf : HubConfig → HubSession → List Message → Type 0
-IsShortOf config session ms =
-    (config.capacity - length (uses session.end.book) < identifiers_for ms)
-    ⊎ (leaves config.most_stored (stored_bytes session.end.book) (bytes_for ms) ≡ false)
+IsShortOf config session messages =
+    (config.capacity - length (uses session.end.book) < identifiers_for messages)
+    ⊎ (leaves config.most_stored (stored_bytes session.end.book) (bytes_for messages) ≡ false)
 
 -- the session is one of these
 abbrev pub IsAmong : HubSession → List HubSession → Type 0
-IsAmong s [] = ⊥
-IsAmong s (t ∷ ts) = (s ≡ t) ⊎ IsAmong s ts
+IsAmong session [] = ⊥
+IsAmong session (first ∷ rest) = (session ≡ first) ⊎ IsAmong session rest
 
 -- After these acts, a PUBLISH or SUBSCRIBE arrives on a connected connection and closes it. Some
 -- client's session has no room for the messages that it routes to the client (2.3.1, 3.3.5, 3.8.4).

@@ -25,76 +25,76 @@ pub record Since (Sets : Act → Type 0) (ends : Act → Bool) (log : List Act) 
 
 -- the act changes the client's subscription with this filter
 unfoldable pub changes_row : ℕ → List ℕ → Act → Bool
-changes_row client topic_filter (acts.Subscribed c f q) = client == c && bytes_eq topic_filter f
-changes_row client topic_filter (acts.Unsubscribed c f) = client == c && bytes_eq topic_filter f
-changes_row client topic_filter (acts.Removed c) = client == c
-changes_row client topic_filter (acts.Up k c present) = false
-changes_row client topic_filter (acts.Took c m) = false
-changes_row client topic_filter (acts.Placed c m) = false
-changes_row client topic_filter (acts.Missed c m) = false
-changes_row client topic_filter (acts.Will c m) = false
-changes_row client topic_filter (acts.WillDropped c) = false
-changes_row client topic_filter (acts.Closed k why) = false
+changes_row client topic_filter (acts.Subscribed other other_filter qos) = client == other && bytes_eq topic_filter other_filter
+changes_row client topic_filter (acts.Unsubscribed other other_filter) = client == other && bytes_eq topic_filter other_filter
+changes_row client topic_filter (acts.Removed other) = client == other
+changes_row client topic_filter (acts.Up conn other present) = false
+changes_row client topic_filter (acts.Took other message) = false
+changes_row client topic_filter (acts.Placed other message) = false
+changes_row client topic_filter (acts.Missed other message) = false
+changes_row client topic_filter (acts.Will other message) = false
+changes_row client topic_filter (acts.WillDropped other) = false
+changes_row client topic_filter (acts.Closed conn why) = false
 
 -- the act gives the subscription this QoS
 abbrev pub Subscribes : ℕ → List ℕ → Qos → Act → Type 0
-Subscribes client topic_filter qos (acts.Subscribed c f q) = (client ≡ c) × (topic_filter ≡ f) × (qos ≡ q)
-Subscribes client topic_filter qos other = ⊥
+Subscribes client topic_filter qos (acts.Subscribed other other_filter other_qos) = (client ≡ other) × (topic_filter ≡ other_filter) × (qos ≡ other_qos)
+Subscribes client topic_filter qos act = ⊥
 
 -- ---- connections
 
--- the client connects on k
+-- the client connects on this connection
 abbrev pub Connects : ℕ → Conn → Act → Type 0
-Connects client k (acts.Up j c present) = (client ≡ c) × (k ≡ j)
-Connects client k other = ⊥
+Connects client conn (acts.Up other_conn other present) = (client ≡ other) × (conn ≡ other_conn)
+Connects client conn act = ⊥
 
--- the client connects, or connection k closes
+-- the client connects, or the connection closes
 unfoldable pub ends_connection : ℕ → Conn → Act → Bool
-ends_connection client k (acts.Up j c present) = c == client
-ends_connection client k (acts.Closed j why) = same_conn k j
-ends_connection client k (acts.Took c m) = false
-ends_connection client k (acts.Placed c m) = false
-ends_connection client k (acts.Missed c m) = false
-ends_connection client k (acts.Subscribed c f q) = false
-ends_connection client k (acts.Unsubscribed c f) = false
-ends_connection client k (acts.Will c m) = false
-ends_connection client k (acts.WillDropped c) = false
-ends_connection client k (acts.Removed c) = false
+ends_connection client conn (acts.Up other_conn other present) = other == client
+ends_connection client conn (acts.Closed other_conn why) = same_conn conn other_conn
+ends_connection client conn (acts.Took other message) = false
+ends_connection client conn (acts.Placed other message) = false
+ends_connection client conn (acts.Missed other message) = false
+ends_connection client conn (acts.Subscribed other topic_filter qos) = false
+ends_connection client conn (acts.Unsubscribed other topic_filter) = false
+ends_connection client conn (acts.Will other message) = false
+ends_connection client conn (acts.WillDropped other) = false
+ends_connection client conn (acts.Removed other) = false
 
 -- ---- retained messages
 
 -- the message that the act publishes
 unfoldable pub published : Act → Option Message
-published (acts.Took c m) = Some m
-published (acts.Will c m) = Some m
-published (acts.Up k c present) = None
-published (acts.Placed c m) = None
-published (acts.Missed c m) = None
-published (acts.Subscribed c f q) = None
-published (acts.Unsubscribed c f) = None
-published (acts.WillDropped c) = None
-published (acts.Closed k why) = None
-published (acts.Removed c) = None
+published (acts.Took client message) = Some message
+published (acts.Will client message) = Some message
+published (acts.Up conn client present) = None
+published (acts.Placed client message) = None
+published (acts.Missed client message) = None
+published (acts.Subscribed client topic_filter qos) = None
+published (acts.Unsubscribed client topic_filter) = None
+published (acts.WillDropped client) = None
+published (acts.Closed conn why) = None
+published (acts.Removed client) = None
 
 -- the message has RETAIN, and its topic name doesn't begin with `$` (3.3.1.3, 4.7.2)
 abbrev pub may_retain : Message → Bool
-may_retain m = m.retain && not (is_hidden_name m.topic)
+may_retain message = message.retain && not (is_hidden_name message.topic)
 
 abbrev pub is_empty : Message → Bool
-is_empty m = length m.payload == 0
+is_empty message = length message.payload == 0
 
--- the broker retains m when it publishes this message
+-- the broker retains the message when it publishes this one
 abbrev pub IsRetained : Message → Option Message → Type 0
-IsRetained m None = ⊥
-IsRetained m (Some n) = (m ≡ n) × (may_retain n ≡ true) × (is_empty n ≡ false)
+IsRetained message None = ⊥
+IsRetained message (Some other) = (message ≡ other) × (may_retain other ≡ true) × (is_empty other ≡ false)
 
 abbrev pub Retains : Message → Act → Type 0
-Retains m act = IsRetained m (published act)
+Retains message act = IsRetained message (published act)
 
 -- the message replaces or removes the retained message of this topic name
 abbrev pub is_newer : List ℕ → Option Message → Bool
 is_newer name None = false
-is_newer name (Some m) = may_retain m && is_of name m
+is_newer name (Some message) = may_retain message && is_of name message
 
 abbrev pub replaces : List ℕ → Act → Bool
 replaces name act = is_newer name (published act)
@@ -102,27 +102,27 @@ replaces name act = is_newer name (published act)
 -- the message has an empty payload and removes the retained message of this topic name
 abbrev pub is_clearing : List ℕ → Option Message → Bool
 is_clearing name None = false
-is_clearing name (Some m) = may_retain m && (is_empty m && is_of name m)
+is_clearing name (Some message) = may_retain message && (is_empty message && is_of name message)
 
 abbrev pub clears : List ℕ → Act → Bool
 clears name act = is_clearing name (published act)
 
 abbrev pub IsIn : Message → List Message → Type 0
-IsIn m [] = ⊥
-IsIn m (n ∷ ns) = (m ≡ n) ⊎ IsIn m ns
+IsIn message [] = ⊥
+IsIn message (first ∷ rest) = (message ≡ first) ⊎ IsIn message rest
 
 abbrev pub has_name : List ℕ → List Message → Bool
-has_name name ms = list_any (is_of name) ms
+has_name name messages = list_any (is_of name) messages
 
 -- no two of these messages have the same topic name
 abbrev pub AreApart : List Message → Type 0
 AreApart [] = Unit {0}
-AreApart (m ∷ ms) = (has_name m.topic ms ≡ false) × AreApart ms
+AreApart (message ∷ messages) = (has_name message.topic messages ≡ false) × AreApart messages
 
 -- a message of the first topic name is before one of the second
 abbrev pub precedes : List ℕ → List ℕ → List Message → Bool
 precedes first second [] = false
-precedes first second (m ∷ ms) = (is_of first m && has_name second ms) || precedes first second ms
+precedes first second (message ∷ messages) = (is_of first message && has_name second messages) || precedes first second messages
 
 -- At some time in the list, the first topic name has a retained message and the second has none. No
 -- later act removes the first.

@@ -58,35 +58,35 @@ new_hub config = record { config = config; clock = 0; next_key = 0; rows = []; r
 -- ---- connections
 
 abbrev pub is_connection : Conn → HubConnection → Bool
-is_connection conn x = same_conn x.conn conn
+is_connection conn connection = same_conn connection.conn conn
 
 -- the connection is known: it was opened and has not ended
 abbrev pub knows : Conn → List HubConnection → Bool
-knows conn xs = list_any (is_connection conn) xs
+knows conn connections = list_any (is_connection conn) connections
 
 -- the state of a connection; an unknown connection is closed
 abbrev pub stage_of : Conn → List HubConnection → ConnectionState
 stage_of conn [] = Closed
-stage_of conn (x ∷ xs) = if is_connection conn x then x.stage else stage_of conn xs
+stage_of conn (connection ∷ rest) = if is_connection conn connection then connection.stage else stage_of conn rest
 
 abbrev pub held_on : Conn → List HubConnection → List ℕ
 held_on conn [] = []
-held_on conn (x ∷ xs) = if is_connection conn x then x.held else held_on conn xs
+held_on conn (connection ∷ rest) = if is_connection conn connection then connection.held else held_on conn rest
 
 abbrev pub waiting_on : Conn → List HubConnection → List ℕ
 waiting_on conn [] = []
-waiting_on conn (x ∷ xs) = if is_connection conn x then x.waiting else waiting_on conn xs
+waiting_on conn (connection ∷ rest) = if is_connection conn connection then connection.waiting else waiting_on conn rest
 
 abbrev pub changed : (HubConnection → HubConnection) → Conn → HubConnection → HubConnection
-changed change conn x = if is_connection conn x then change x else x
+changed change conn connection = if is_connection conn connection then change connection else connection
 
 -- the connections with one changed
 abbrev pub with_connection : (HubConnection → HubConnection) → Conn → List HubConnection → List HubConnection
-with_connection change conn xs = map (changed change conn) xs
+with_connection change conn connections = map (changed change conn) connections
 
 -- the connections without one
 abbrev pub without_connection : Conn → List HubConnection → List HubConnection
-without_connection conn xs = filter (λ x. not (is_connection conn x)) xs
+without_connection conn connections = filter (λ connection. not (is_connection conn connection)) connections
 
 -- the connection is not closed
 abbrev pub is_open : ConnectionState → Bool
@@ -114,12 +114,12 @@ is_for key Closed = false
 -- the connection of a client
 abbrev pub up_on : ℕ → List HubConnection → Option Conn
 up_on key [] = None
-up_on key (x ∷ xs) = if is_for key x.stage then Some x.conn else up_on key xs
+up_on key (connection ∷ rest) = if is_for key connection.stage then Some connection.conn else up_on key rest
 
 -- the state of the connection on which a client is connected; `Closed` if there is none
 abbrev pub stage_for : ℕ → List HubConnection → ConnectionState
 stage_for key [] = Closed
-stage_for key (x ∷ xs) = if is_for key x.stage then x.stage else stage_for key xs
+stage_for key (connection ∷ rest) = if is_for key connection.stage then connection.stage else stage_for key rest
 
 -- the keep-alive of the connected client in seconds (3.1.2.10)
 abbrev pub keep_alive_on : ConnectionState → ℕ
@@ -132,45 +132,45 @@ keep_alive_on Closed = 0
 -- the end of a session
 abbrev pub end_of : ℕ → List HubSession → End
 end_of key [] = no_end
-end_of key (s ∷ ss) = if s.key == key then s.end else end_of key ss
+end_of key (session ∷ rest) = if session.key == key then session.end else end_of key rest
 
 abbrev pub ending_in : ℕ → End → HubSession → HubSession
-ending_in key e s = if s.key == key then record s { end = e } else s
+ending_in key end session = if session.key == key then record session { end = end } else session
 
 -- the sessions with one end replaced
 abbrev pub with_end : ℕ → End → List HubSession → List HubSession
-with_end key e ss = map (ending_in key e) ss
+with_end key end sessions = map (ending_in key end) sessions
 
 -- the session has this key
 abbrev pub is_session : Option ℕ → HubSession → Bool
-is_session None s = false
-is_session (Some key) s = s.key == key
+is_session None session = false
+is_session (Some key) session = session.key == key
 
 abbrev pub leaving : Option ℕ → ℕ → HubSession → HubSession
-leaving key now s = if is_session key s then record s { left = now } else s
+leaving key now session = if is_session key session then record session { left = now } else session
 
 -- the sessions, of which one stores this time as that of its client's last disconnect
 abbrev pub with_left : Option ℕ → ℕ → List HubSession → List HubSession
-with_left key now ss = map (leaving key now) ss
+with_left key now sessions = map (leaving key now) sessions
 
 abbrev pub without_session : ℕ → List HubSession → List HubSession
-without_session key ss = filter (λ s. not (s.key == key)) ss
+without_session key sessions = filter (λ session. not (session.key == key)) sessions
 
 -- the key of a client's session (3.1.3.1)
 abbrev pub key_of : List ℕ → List HubSession → Option ℕ
 key_of client [] = None
-key_of client (s ∷ ss) = if bytes_eq s.client client then Some s.key else key_of client ss
+key_of client (session ∷ rest) = if bytes_eq session.client client then Some session.key else key_of client rest
 
 -- the end that takes the packets of a connection; before CONNECT it has no session
 abbrev pub end_on : ConnectionState → List HubSession → End
-end_on AwaitingConnect ss = (opens no_end).end
-end_on (ConnectedAs key terms last_activity) ss = end_of key ss
-end_on Closed ss = no_end
+end_on AwaitingConnect sessions = (opens no_end).end
+end_on (ConnectedAs key terms last_activity) sessions = end_of key sessions
+end_on Closed sessions = no_end
 
 -- ---- copies
 
 abbrev pub for_key : ℕ → List Message → List (ℕ × Message)
-for_key key ms = map (λ message. (key, message)) ms
+for_key key messages = map (λ message. (key, message)) messages
 
 -- the copies of a message: one for each client with a matching subscription, by ascending key
 -- (3.3.5), and none for a topic name that begins with `$`

@@ -21,8 +21,8 @@ use Rattle.mq_route.specs.Taken.{handed_from, of_client}
 
 -- the messages for one client among copies
 abbrev pub for_client : ℕ → List (ℕ × Message) → List Message
-for_client c [] = []
-for_client c (x ∷ xs) = if x.0 == c then x.1 ∷ for_client c xs else for_client c xs
+for_client client [] = []
+for_client client (first ∷ rest) = if first.0 == client then first.1 ∷ for_client client rest else for_client client rest
 
 pub record RoutingLaws : Type 0 where
   -- the messages that were placed for a client or that it missed, in the order of the acts, are

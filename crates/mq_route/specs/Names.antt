@@ -9,7 +9,7 @@ pub record IsLeastFree (name : List ℕ) (sessions : List HubSession) : Type 0 w
   pub number : ℕ
   pub is : name ≡ made_up number
   pub free : key_of name sessions ≡ None
-  pub least : (m : ℕ) → m < number → is_some (key_of (made_up m) sessions) ≡ true
+  pub least : (smaller : ℕ) → smaller < number → is_some (key_of (made_up smaller) sessions) ≡ true
 
 pub record NameLaws : Type 0 where
   -- a CONNECT without a client identifier gets the least free name

@@ -40,7 +40,7 @@ came_in episodes = flat_map (λ episode. episode.work.came) episodes
 -- the packets that were sent on one connection
 abbrev pub on_conn : Conn → List (Conn × Packet) → List Packet
 on_conn conn [] = []
-on_conn conn (x ∷ xs) = if same_conn x.0 conn then x.1 ∷ on_conn conn xs else on_conn conn xs
+on_conn conn (first ∷ rest) = if same_conn first.0 conn then first.1 ∷ on_conn conn rest else on_conn conn rest
 
 -- the event takes the pending output of a connection
 abbrev pub collects : Conn → HubEvent → Bool

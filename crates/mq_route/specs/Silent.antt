@@ -36,7 +36,7 @@ awaits_connect Closed = false
 
 -- the connections that wait for CONNECT for too long, in the order in which they were opened
 abbrev pub silent : Option ℕ → ℕ → List HubConnection → List Conn
-silent within now xs = map (λ x. x.conn) (filter (λ x. awaits_connect x.stage && has_passed within x.since now) xs)
+silent within now connections = map (λ connection. connection.conn) (filter (λ connection. awaits_connect connection.stage && has_passed within connection.since now) connections)
 
 -- only a tick closes them
 abbrev pub due_closes : HubEvent → HubState → List Conn

@@ -28,29 +28,29 @@ signature = 0x4d ∷ 0x51 ∷ 0x42 ∷ 1 ∷ []
 
 -- a number of eight bytes, the high byte first
 unfoldable pub eight : ℕ → List ℕ
-eight n = count (n / 4294967296) ++ count (n % 4294967296)
+eight value = count (value / 4294967296) ++ count (value % 4294967296)
 
 -- the number of items, followed by the items
 abbrev pub listed : {A : Type 0} → (A → List ℕ) → List A → List ℕ
-listed saved xs = eight (length xs) ++ flat_map saved xs
+listed saved items = eight (length items) ++ flat_map saved items
 
 -- a subscription (3.8.4): key, topic filter, QoS
 unfoldable pub saved_row : Row → List ℕ
-saved_row r = count r.0.0 ++ (counted r.0.1 ++ qos_number r.1 ∷ [])
+saved_row row = count row.0.0 ++ (counted row.0.1 ++ qos_number row.1 ∷ [])
 
 -- a retained message (3.3.1.3): QoS, RETAIN, topic name, payload
 unfoldable pub saved_message : Message → List ℕ
-saved_message m = qos_number m.qos ∷ bit m.retain ∷ (counted m.topic ++ saved_payload m.payload)
+saved_message message = qos_number message.qos ∷ bit message.retain ∷ (counted message.topic ++ saved_payload message.payload)
 
 -- The session of an end: the identifier assigned last (2.3.1), the messages that it sends and that
 -- are not acknowledged, and the identifiers that are released and received (4.3).
 unfoldable pub saved_end : End → List ℕ
-saved_end e = number e.last ++ (number (length e.book.entries) ++ (flat_map saved_entry e.book.entries ++ (saved_ids e.book.released ++ saved_receiver e.received)))
+saved_end end = number end.last ++ (number (length end.book.entries) ++ (flat_map saved_entry end.book.entries ++ (saved_ids end.book.released ++ saved_receiver end.received)))
 
 -- A session (3.1.2.4): key, time of the last disconnect, client identifier, and the session of its
 -- end after the number of its bytes.
 unfoldable pub saved_session : HubSession → List ℕ
-saved_session s = count s.key ++ (eight s.left ++ (counted s.client ++ (eight (length (saved_end s.end)) ++ saved_end s.end)))
+saved_session session = count session.key ++ (eight session.left ++ (counted session.client ++ (eight (length (saved_end session.end)) ++ saved_end session.end)))
 
 -- ---- connections
 
@@ -71,7 +71,9 @@ saved_state Closed = 2 ∷ []
 -- A connection: worker, number, time at which it was opened, state, and the bytes of an incomplete
 -- packet after their number.
 unfoldable pub saved_connection : HubConnection → List ℕ
-saved_connection x = number x.conn.worker ++ (count x.conn.nth ++ (eight x.since ++ (saved_state x.stage ++ (eight (length x.held) ++ x.held))))
+saved_connection connection =
+    number connection.conn.worker ++ (count connection.conn.nth ++ (eight connection.since ++ (saved_state connection.stage
+    ++ (eight (length connection.held) ++ connection.held))))
 
 -- A broker: clock, next key, subscriptions, retained messages, sessions, connections.
 unfoldable pub snapshot : HubState → List ℕ
@@ -85,7 +87,7 @@ snapshot hub =
 -- An end as a snapshot keeps it: the session of the end (3.1.2.4), and the clean session flag and
 -- the keep-alive of its client's connection. This is the state of that connection, or `Closed`.
 abbrev pub kept_end : Option ℕ → ConnectionState → End → End
-kept_end window stage e = record (resumed window true e.book e.received e.last) {
+kept_end window stage end = record (resumed window true end.book end.received end.last) {
   state = if is_some (key_on stage) then Connected else Disconnected;
   clean = is_clean stage;
   keep_alive = keep_alive_on stage;
@@ -93,11 +95,11 @@ kept_end window stage e = record (resumed window true e.book e.received e.last) 
 
 -- a session as a snapshot with these connections keeps it
 abbrev pub kept_session : Option ℕ → List HubConnection → HubSession → HubSession
-kept_session window xs s = record s { end = kept_end window (stage_for s.key xs) s.end }
+kept_session window connections session = record session { end = kept_end window (stage_for session.key connections) session.end }
 
 -- a connection without its pending output
 abbrev pub quieted : HubConnection → HubConnection
-quieted x = record x { waiting = [] }
+quieted connection = record connection { waiting = [] }
 
 -- a broker without its pending output
 abbrev pub quiet : HubState → HubState
@@ -114,7 +116,7 @@ IsKeptWhole hub = restored hub.config hub ≡ hub
 
 -- The identifiers that a session received are valid (2.3.1).
 abbrev pub HasIdentifiers : HubSession → Type 0
-HasIdentifiers s = (i : ℕ) → set.contains s.end.received i ≡ true → IsIdentifier i
+HasIdentifiers session = (identifier : ℕ) → set.contains session.end.received identifier ≡ true → IsIdentifier identifier
 
 -- This applies to each session of the broker.
 abbrev pub IsStorable : HubState → Type 0

@@ -23,27 +23,27 @@ use Rattle.mq_route.specs.Arrives.{Growth, takes, on_malformed}
 -- ---- incoming bytes
 
 abbrev pub is_open_on : Conn → Work → Bool
-is_open_on k w = is_open (stage_of k w.hub.connections)
+is_open_on conn work = is_open (stage_of conn work.hub.connections)
 
 -- the connection holds the bytes of an incomplete packet
 abbrev pub holding : Conn → List ℕ → Work → Work
-holding k b w = with_connections (with_connection (λ x. record x { held = b }) k) w
+holding conn bytes work = with_connections (with_connection (λ x. record x { held = bytes }) conn) work
 
 -- Bytes arrive on a connection: its packets are processed one after another, until one closes the
 -- connection, and then the rest.
-pub data Comes (limits : Bounds) (k : Conn) : List ℕ → Work → Work → Type 0 where
+pub data Comes (limits : Bounds) (conn : Conn) : List ℕ → Work → Work → Type 0 where
   -- the bytes begin with a packet, which is processed first
-  Arrives : (p : Packet) (first rest : List ℕ) (g : Growth) (w w2 : Work) → is_open_on k w ≡ true → ReadsWithin limits p first
-      → Comes limits k rest (takes k p g w) w2 → Comes limits k (first ++ rest) w w2
+  Arrives : (packet : Packet) (first rest : List ℕ) (growth : Growth) (work last : Work) → is_open_on conn work ≡ true → ReadsWithin limits packet first
+      → Comes limits conn rest (takes conn packet growth work) last → Comes limits conn (first ++ rest) work last
   -- the bytes are an incomplete packet, and are held
-  Waits : (b : List ℕ) (w : Work) → is_open_on k w ≡ true → Pending limits b → Comes limits k b w (holding k b w)
+  Waits : (bytes : List ℕ) (work : Work) → is_open_on conn work ≡ true → Pending limits bytes → Comes limits conn bytes work (holding conn bytes work)
   -- the bytes begin with a malformed packet
-  Breaks : (b : List ℕ) (fault : DecodeFault) (fits : Bool) (w : Work) → is_open_on k w ≡ true → Faulty limits b fault.kind fault.place
-      → Comes limits k b w (on_malformed k fault fits w)
+  Breaks : (bytes : List ℕ) (fault : DecodeFault) (fits : Bool) (work : Work) → is_open_on conn work ≡ true → Faulty limits bytes fault.kind fault.place
+      → Comes limits conn bytes work (on_malformed conn fault fits work)
   -- there are bytes, and an allocation for them fails
-  Starves : (b : List ℕ) (fits : Bool) (w : Work) → is_open_on k w ≡ true → 0 < length b → Comes limits k b w (close k (Own reasons.Memory) fits w)
+  Starves : (bytes : List ℕ) (fits : Bool) (work : Work) → is_open_on conn work ≡ true → 0 < length bytes → Comes limits conn bytes work (close conn (Own reasons.Memory) fits work)
   -- the connection is closed, and ignores the bytes
-  LetsGo : (b : List ℕ) (w : Work) → is_open_on k w ≡ false → Comes limits k b w w
+  LetsGo : (bytes : List ℕ) (work : Work) → is_open_on conn work ≡ false → Comes limits conn bytes work work
 
 -- ---- time
 
@@ -63,77 +63,77 @@ late_reason within now since Closed = None
 -- The late ones among these connections are closed one after another, in the order in which they
 -- were opened.
 pub data Ticks (within : Option ℕ) (now : ℕ) : List HubConnection → Work → Work → Type 0 where
-  Done : (w : Work) → Ticks within now [] w w
-  InTime : (x : HubConnection) (xs : List HubConnection) (w w2 : Work) → late_reason within now x.since x.stage ≡ None
-      → Ticks within now xs w w2 → Ticks within now (x ∷ xs) w w2
-  Late : (x : HubConnection) (xs : List HubConnection) (why : HubClose) (fits : Bool) (w w2 : Work) → late_reason within now x.since x.stage ≡ Some why
-      → Ticks within now xs (close x.conn why fits w) w2 → Ticks within now (x ∷ xs) w w2
+  Done : (work : Work) → Ticks within now [] work work
+  InTime : (connection : HubConnection) (connections : List HubConnection) (work last : Work) → late_reason within now connection.since connection.stage ≡ None
+      → Ticks within now connections work last → Ticks within now (connection ∷ connections) work last
+  Late : (connection : HubConnection) (connections : List HubConnection) (why : HubClose) (fits : Bool) (work last : Work) → late_reason within now connection.since connection.stage ≡ Some why
+      → Ticks within now connections (close connection.conn why fits work) last → Ticks within now (connection ∷ connections) work last
 
 -- the session's client is not connected, and disconnected longer ago than the limit
 abbrev pub is_expired : HubState → HubSession → Bool
-is_expired h s = not (is_some (up_on s.key h.connections)) && has_passed h.config.session_expiry s.left h.clock
+is_expired hub session = not (is_some (up_on session.key hub.connections)) && has_passed hub.config.session_expiry session.left hub.clock
 
 -- the keys of the sessions that are expired
 abbrev pub expired_keys : HubState → List ℕ
-expired_keys h = map (λ s. s.key) (filter (is_expired h) h.sessions)
+expired_keys hub = map (λ s. s.key) (filter (is_expired hub) hub.sessions)
 
 -- sessions are removed one after another
 abbrev pub remove_all : List ℕ → Work → Work
-remove_all [] w = w
-remove_all (key ∷ keys) w = remove_all keys (remove key w)
+remove_all [] work = work
+remove_all (key ∷ keys) work = remove_all keys (remove key work)
 
 -- the expired sessions are removed
 unfoldable pub expire : HubState → Work
-expire h = remove_all (expired_keys h) (begin h)
+expire hub = remove_all (expired_keys hub) (begin hub)
 
 -- ---- events
 
 -- why an event is refused, unless an allocation fails: its connection is unknown, or known already
 -- (4.2)
 abbrev pub event_refusal : HubEvent → HubState → Option HubRefusal
-event_refusal (Opened k) h = if knows k h.connections then Some refusals.ConnInUse else None
-event_refusal (Bytes k piece) h = if knows k h.connections then None else Some refusals.UnknownConn
-event_refusal (Ended k) h = if knows k h.connections then None else Some refusals.UnknownConn
-event_refusal (Tick now) h = None
-event_refusal (Collect k) h = if knows k h.connections then None else Some refusals.UnknownConn
+event_refusal (Opened conn) hub = if knows conn hub.connections then Some refusals.ConnInUse else None
+event_refusal (Bytes conn piece) hub = if knows conn hub.connections then None else Some refusals.UnknownConn
+event_refusal (Ended conn) hub = if knows conn hub.connections then None else Some refusals.UnknownConn
+event_refusal (Tick now) hub = None
+event_refusal (Collect conn) hub = if knows conn hub.connections then None else Some refusals.UnknownConn
 
 -- a reply with the acts of a step and without output
 abbrev pub done : Bool → Work → HubReply
-done alive w = record { acts = w.did; output = []; alive = alive }
+done alive work = record { acts = work.did; output = []; alive = alive }
 
 -- a new connection goes last
 abbrev pub opened : Conn → HubState → HubState
-opened k h = record h { connections = h.connections ++ record { conn = k; stage = AwaitingConnect; held = []; waiting = []; since = h.clock } ∷ [] }
+opened conn hub = record hub { connections = hub.connections ++ record { conn = conn; stage = AwaitingConnect; held = []; waiting = []; since = hub.clock } ∷ [] }
 
 abbrev pub ended_open : Conn → Bool → Bool → Work → Work
-ended_open k true fits w = close k PeerEnded fits w
-ended_open k false fits w = w
+ended_open conn true fits work = close conn PeerEnded fits work
+ended_open conn false fits work = work
 
 -- a connection that ends is closed if it is open, and then forgotten
 abbrev pub ended : Conn → Bool → HubState → Work
-ended k fits h = with_connections (without_connection k) (ended_open k (is_open (stage_of k h.connections)) fits (begin h))
+ended conn fits hub = with_connections (without_connection conn) (ended_open conn (is_open (stage_of conn hub.connections)) fits (begin hub))
 
 -- the pending output is taken
 abbrev pub collected : Conn → HubState → HubState
-collected k h = record h { connections = with_connection (λ x. record x { waiting = [] }) k h.connections }
+collected conn hub = record hub { connections = with_connection (λ x. record x { waiting = [] }) conn hub.connections }
 
 -- the clock is the latest time so far
 abbrev pub told : ℕ → HubState → HubState
-told now h = record h { clock = max h.clock now }
+told now hub = record hub { clock = max hub.clock now }
 
 -- The result of an event, by its kind.
 abbrev pub Does : HubState → HubEvent → HubReply → Work → Type 0
-Does h (Opened k) r w = (w ≡ begin (opened k h)) × (r ≡ done true w)
-Does h (Bytes k piece) r w =
-    Comes h.config.limits k (held_on k h.connections ++ piece) (holding k [] (begin h)) w × (r ≡ done (is_open_on k w) w)
-Does h (Ended k) r w = (fits : Bool) × (w ≡ ended k fits h) × (r ≡ done false w)
-Does h (Tick now) r w = Ticks h.config.connect_within (max h.clock now) h.connections (expire (told now h)) w × (r ≡ done true w)
-Does h (Collect k) r w =
-    (w ≡ begin (collected k h)) × (r ≡ record { acts = []; output = waiting_on k h.connections; alive = is_open (stage_of k h.connections) })
+Does hub (Opened conn) reply work = (work ≡ begin (opened conn hub)) × (reply ≡ done true work)
+Does hub (Bytes conn piece) reply work =
+    Comes hub.config.limits conn (held_on conn hub.connections ++ piece) (holding conn [] (begin hub)) work × (reply ≡ done (is_open_on conn work) work)
+Does hub (Ended conn) reply work = (fits : Bool) × (work ≡ ended conn fits hub) × (reply ≡ done false work)
+Does hub (Tick now) reply work = Ticks hub.config.connect_within (max hub.clock now) hub.connections (expire (told now hub)) work × (reply ≡ done true work)
+Does hub (Collect conn) reply work =
+    (work ≡ begin (collected conn hub)) × (reply ≡ record { acts = []; output = waiting_on conn hub.connections; alive = is_open (stage_of conn hub.connections) })
 
 -- HubStep: an event results in this reply and this broker.
-pub record HubStep (h : HubState) (e : HubEvent) (r : HubReply) (h2 : HubState) : Type 0 where
-  pub right : event_refusal e h ≡ None
+pub record HubStep (hub : HubState) (event : HubEvent) (reply : HubReply) (later_hub : HubState) : Type 0 where
+  pub right : event_refusal event hub ≡ None
   pub work : Work
-  pub does : Does h e r work
-  pub after : h2 ≡ work.hub
+  pub does : Does hub event reply work
+  pub after : later_hub ≡ work.hub

@@ -63,15 +63,15 @@ shut conn work = with_connections (with_connection (λ x. record x { stage = Clo
 
 -- packets are queued on a connection: their encodings are appended to its pending output
 unfoldable pub put_on : Conn → List Packet → Work → Work
-put_on conn ps work = record work {
-  hub = record work.hub { connections = with_connection (λ x. record x { waiting = x.waiting ++ encodings ps }) conn work.hub.connections };
-  sent = work.sent ++ map (λ packet. (conn, packet)) ps;
+put_on conn outgoing work = record work {
+  hub = record work.hub { connections = with_connection (λ x. record x { waiting = x.waiting ++ encodings outgoing }) conn work.hub.connections };
+  sent = work.sent ++ map (λ packet. (conn, packet)) outgoing;
 }
 
 -- packets are queued on the client's connection, if it has one
 abbrev pub put_where : Option Conn → List Packet → Work → Work
-put_where None ps work = work
-put_where (Some conn) ps work = put_on conn ps work
+put_where None outgoing work = work
+put_where (Some conn) outgoing work = put_on conn outgoing work
 
 -- the session's end makes a move, and its packets are queued for the client
 unfoldable pub does : ℕ → (End → Reply) → Work → Work
@@ -83,7 +83,7 @@ does key move work =
 
 -- an end publishes a message with the next identifier (2.3.1, 4.3)
 abbrev pub publishes_next : Message → End → Reply
-publishes_next message e = publishes (next_identifier e.last e.book) message e
+publishes_next message end = publishes (next_identifier end.last end.book) message end
 
 -- copies of QoS 1 and 2 without room are dropped
 abbrev pub drops_copies : WhenFull → Bool
@@ -132,15 +132,15 @@ place key message work =
 -- copies are placed or missed one after another
 abbrev pub place_all : List (ℕ × Message) → Work → Work
 place_all [] work = work
-place_all (x ∷ xs) work = place_all xs (place x.0 x.1 work)
+place_all (first ∷ rest) work = place_all rest (place first.0 first.1 work)
 
 -- the number of identifiers that a client's copies need (2.3.1)
 abbrev pub needs : ℕ → List (ℕ × Message) → ℕ
-needs key copies = count_by (λ x. x.0 == key && has_identifier x.1.qos) copies
+needs key copies = count_by (λ pair. pair.0 == key && has_identifier pair.1.qos) copies
 
 -- the number of bytes of these that the client's session stores
 abbrev pub needed_bytes : ℕ → List (ℕ × Message) → ℕ
-needed_bytes key copies = sum_by (λ x. if x.0 == key && has_identifier x.1.qos then message_bytes x.1 else 0) copies
+needed_bytes key copies = sum_by (λ pair. if pair.0 == key && has_identifier pair.1.qos then message_bytes pair.1 else 0) copies
 
 -- the session has enough identifiers free for its copies (2.3.1), and may store their bytes
 abbrev pub fits_in : HubConfig → List (ℕ × Message) → HubSession → Bool
@@ -210,16 +210,16 @@ close conn why fits work =
 -- a client subscribes to filters (3.8.4)
 abbrev pub subscribed : ℕ → List Request → Work → Work
 subscribed key [] work = work
-subscribed key (r ∷ rs) work =
-    subscribed key rs (said (acts.Subscribed key r.filter r.qos) (record work { hub = record work.hub { rows = with_row key r.filter r.qos work.hub.rows } }))
+subscribed key (request ∷ rest) work =
+    subscribed key rest (said (acts.Subscribed key request.filter request.qos) (record work { hub = record work.hub { rows = with_row key request.filter request.qos work.hub.rows } }))
 
 -- a client unsubscribes from filters (3.10.4)
 abbrev pub unsubscribed : ℕ → List (List ℕ) → Work → Work
 unsubscribed key [] work = work
-unsubscribed key (f ∷ fs) work =
-    unsubscribed key fs (said (acts.Unsubscribed key f) (record work { hub = record work.hub { rows = without_row key f work.hub.rows } }))
+unsubscribed key (topic_filter ∷ rest) work =
+    unsubscribed key rest (said (acts.Unsubscribed key topic_filter) (record work { hub = record work.hub { rows = without_row key topic_filter work.hub.rows } }))
 
 -- the retained messages for new subscriptions, filter by filter (3.3.1.3, 3.8.4)
 abbrev pub retained_copies : ℕ → List Request → List Message → List (ℕ × Message)
-retained_copies key [] ms = []
-retained_copies key (r ∷ rs) ms = for_key key (retained_for r.filter r.qos ms) ++ retained_copies key rs ms
+retained_copies key [] messages = []
+retained_copies key (request ∷ rest) messages = for_key key (retained_for request.filter request.qos messages) ++ retained_copies key rest messages

@@ -15,7 +15,7 @@ pub enum HubClose {
     /// A session that is due a message has no room for it: no packet identifier is free (2.3.1), or
     /// the message exceeds [`HubConfig::most_stored`](crate::HubConfig). The broker is configured
     /// with [`WhenFull::ClosePublisher`](crate::WhenFull).
-    #[error("a session that is due a message has no room for it")]
+    #[error("a session has no room for a message that it must receive")]
     TargetFull,
     /// The client connected again on another connection (3.1.4).
     #[error("the client connected on another connection")]

@@ -182,7 +182,7 @@ fn unsubscribe(
     add_asked(told, client.unsubscribe(NonEmpty::from_vec(filters)))
 }
 
-// `swap BYTES`: these for the output that waits.
+// `swap BYTES`: these for the pending output.
 fn swap(
     alloc: Global,
     client: &mut ClientEnd,

@@ -35,7 +35,7 @@ fn append_publish(
     Ok(queue.append_publish(&message, None)?)
 }
 
-// A number of bytes that wait.
+// A number of pending bytes.
 fn waiting(queue: &ByteQueue, words: &mut Words<'_>) -> Result<usize, Wrong>
     ensures { IfOk result (λ count. count ≤ length queue.now) }
 {
@@ -71,7 +71,7 @@ pub(crate) fn tell(
     Ok(())
 }
 
-/// Adds the bytes that wait, their number, and whether there is none.
+/// Adds the pending bytes, their number, and whether the queue is empty.
 pub(crate) fn see(queue: &ByteQueue, seen: &mut String) -> Result<(), Wrong> {
     add_word(seen, queue.as_slice())?;
     Ok(write!(seen, " {} {}", queue.len(), queue.is_empty())?)

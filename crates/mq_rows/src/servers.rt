@@ -184,7 +184,7 @@ fn reserve_connect(
     add_ready(server, &packet, messages.as_slice(), more, told)
 }
 
-// `swap BYTES`: these for the output that waits.
+// `swap BYTES`: these for the pending output.
 fn swap(
     alloc: Global,
     server: &mut ServerEnd,

@@ -247,8 +247,8 @@ fn add_entries(text: &mut String, sender: &Sender) -> Result<(), AllocError> {
     Ok(())
 }
 
-/// Adds the messages in order, each with its identifier and a + where it was sent; how many
-/// identifiers are released; how many are claimed; how much room there is.
+/// Adds the messages in order, each with its identifier and a + if it was sent; then the numbers
+/// of released, claimed and free identifiers.
 pub(crate) fn see(session: &Session, seen: &mut String) -> Result<(), Wrong> {
     let sender = &session.sender;
     add_entries(seen, sender)?;

@@ -1,4 +1,4 @@
-//! What a list is of.
+//! The subject of a list.
 
 use crate::decoders::Decoders;
 use crate::fields::bytes_of;
@@ -14,7 +14,7 @@ use mq_flow::Session;
 use std::alloc::Global;
 use std::mem;
 
-/// What a list is of.
+/// The subject of a list.
 #[derive(Drop)]
 pub(crate) enum Subject {
     /// No list began.
@@ -37,7 +37,7 @@ pub(crate) enum Subject {
     Client(Box<ClientEnd>),
     /// A server end.
     Server(Box<ServerEnd>),
-    /// Bytes that wait.
+    /// Pending bytes.
     Queue(ByteQueue),
 }
 

@@ -8,32 +8,32 @@ use Rattle.mq_schedule.specs.Parts.{KeepsBounds}
 use Rattle.mq_schedule.specs.Writing.{schedule_text}
 
 -- two schedules with the same limit, capacity, window and steps
-pub record SameSchedule (s t : Schedule) : Type 0 where
-  pub limits : s.limits ≡ t.limits
-  pub capacity : non_zero_u16_get s.capacity ≡ non_zero_u16_get t.capacity
-  pub window : number_of s.window ≡ number_of t.window
-  pub steps : s.steps.items ≡ t.steps.items
+pub record SameSchedule (one other : Schedule) : Type 0 where
+  pub limits : one.limits ≡ other.limits
+  pub capacity : non_zero_u16_get one.capacity ≡ non_zero_u16_get other.capacity
+  pub window : number_of one.window ≡ number_of other.window
+  pub steps : one.steps.items ≡ other.steps.items
 
 -- a receiving window, if there is one, has room, and so few places that two bytes count them
 abbrev pub KeepsWindow : Option ℕ → Type 0
 KeepsWindow None = ⊤
-KeepsWindow (Some n) = (1 ≤ n) × (n < 2 ^ 16)
+KeepsWindow (Some window) = (1 ≤ window) × (window < 2 ^ 16)
 
 -- the limit is one (2.2.3), identifiers may be in use (2.3.1), and the window and each step keep
 -- their bounds
-pub record InBounds (s : Schedule) : Type 0 where
-  pub least : 64 ≤ s.limits.most
-  pub most : s.limits.most < 2 ^ 28
-  pub some : 1 ≤ non_zero_u16_get s.capacity
-  pub few : non_zero_u16_get s.capacity < 2 ^ 16
-  pub window : KeepsWindow (number_of s.window)
-  pub steps : All KeepsBounds s.steps.items
+pub record InBounds (schedule : Schedule) : Type 0 where
+  pub least : 64 ≤ schedule.limits.most
+  pub most : schedule.limits.most < 2 ^ 28
+  pub some : 1 ≤ non_zero_u16_get schedule.capacity
+  pub few : non_zero_u16_get schedule.capacity < 2 ^ 16
+  pub window : KeepsWindow (number_of schedule.window)
+  pub steps : All KeepsBounds schedule.steps.items
 
 -- The laws of schedules.
 pub record ScheduleLaws : Type 0 where
   -- lines are at most one schedule
-  pub one_schedule : (lines : List (List ℕ)) (s t : Schedule) → IsSchedule lines s → IsSchedule lines t → SameSchedule s t
+  pub one_schedule : (lines : List (List ℕ)) (schedule other : Schedule) → IsSchedule lines schedule → IsSchedule lines other → SameSchedule schedule other
   -- lines that are a schedule have no line that is of no kind
-  pub not_both : (lines : List (List ℕ)) (s : Schedule) (n : ℕ) → IsSchedule lines s → ¬ IsBadLine lines n
+  pub not_both : (lines : List (List ℕ)) (schedule : Schedule) (number : ℕ) → IsSchedule lines schedule → ¬ IsBadLine lines number
   -- The text form of a schedule is read back, if each of its parts is within its bounds.
-  pub read_back : (s : Schedule) → InBounds s → IsSchedule (lines_of (schedule_text s)) s
+  pub read_back : (schedule : Schedule) → InBounds schedule → IsSchedule (lines_of (schedule_text schedule)) schedule

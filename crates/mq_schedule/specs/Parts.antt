@@ -12,7 +12,7 @@ use Rattle.mq_schedule.specs.Schedule.{IsNumber, Writes, words_of}
 
 -- the parts of a text between bytes of a kind
 abbrev pub parts : ℕ → List ℕ → List (List ℕ)
-parts by text = slice_split (λ b. b == by) text
+parts by text = slice_split (λ byte. byte == by) text
 
 -- the remaining parts of a text, none after its last
 abbrev pub parts_left : ℕ → Option (Bor (List ℕ)) → List (List ℕ)
@@ -39,26 +39,26 @@ abbrev pub is_plain : ℕ → Bool
 is_plain byte = nat_le 33 byte && nat_le byte 126 && not (byte == 37)
 
 -- a bound on the remaining length (2.2.3)
-pub record IsLimit (n : ℕ) (word : List ℕ) : Type 0 where
-  pub number : IsNumber n word
-  pub least : 64 ≤ n
-  pub most : n ≤ 268435455
+pub record IsLimit (value : ℕ) (word : List ℕ) : Type 0 where
+  pub number : IsNumber value word
+  pub least : 64 ≤ value
+  pub most : value ≤ 268435455
 
 -- how many packet identifiers may be in use (2.3.1)
-pub record IsCapacity (n : ℕ) (word : List ℕ) : Type 0 where
-  pub number : IsNumber n word
-  pub least : 1 ≤ n
-  pub most : n ≤ 65535
+pub record IsCapacity (value : ℕ) (word : List ℕ) : Type 0 where
+  pub number : IsNumber value word
+  pub least : 1 ≤ value
+  pub most : value ≤ 65535
 
 -- The bounds of the parts of a step (2.2.3, 4.7).
 abbrev pub KeepsBounds : Step → Type 0
-KeepsBounds (Event (events.Publish side m)) = IsTopicName m.topic × IsBytes m.payload × (length m.payload < 2 ^ 28)
-KeepsBounds (Event (events.Deliver side n)) = n < 2 ^ 64
+KeepsBounds (Event (events.Publish side message)) = IsTopicName message.topic × IsBytes message.payload × (length message.payload < 2 ^ 28)
+KeepsBounds (Event (events.Deliver side number)) = number < 2 ^ 64
 KeepsBounds (Event (events.Drop side)) = ⊤
 KeepsBounds (Event events.Restart) = ⊤
 KeepsBounds (Event events.Leave) = ⊤
 KeepsBounds (Event events.Open) = ⊤
-KeepsBounds (Event (events.Tick side n)) = n < 2 ^ 64
+KeepsBounds (Event (events.Tick side number)) = number < 2 ^ 64
 KeepsBounds Settle = ⊤
 
 -- each line is a step
@@ -66,12 +66,12 @@ abbrev pub AreSteps : List Step → List (List ℕ) → Type 0
 AreSteps steps lines = AllZip (λ step line. Writes step (words_of line)) steps lines
 
 -- Lines that are steps, followed by one that is not. The first line has the number 2.
-pub record StopsAt (lines : List (List ℕ)) (n : ℕ) : Type 0 where
+pub record StopsAt (lines : List (List ℕ)) (number : ℕ) : Type 0 where
   pub steps : Vec Step Global
   pub front : List (List ℕ)
   pub line : List ℕ
   pub others : List (List ℕ)
   pub lines_are : lines ≡ front ++ line ∷ others
-  pub place : n ≡ length front + 2
+  pub place : number ≡ length front + 2
   pub before : AreSteps steps.items front
   pub no_step : (step : Step) → ¬ Writes step (words_of line)

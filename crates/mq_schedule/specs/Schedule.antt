@@ -22,17 +22,17 @@ use Rattle.mq_schedule.specs.declared.schedule.Schedule.{Schedule}
 
 -- the lines of a text, each with a line feed at its end, which the last one may lack
 abbrev pub lines_of : List ℕ → List (List ℕ)
-lines_of text = slice_split (λ b. b == 10) (strip_last 10 text)
+lines_of text = slice_split (λ byte. byte == 10) (strip_last 10 text)
 
 -- the words of a line, parted by one space each
 abbrev pub words_of : List ℕ → List (List ℕ)
-words_of line = slice_split (λ b. b == 32) line
+words_of line = slice_split (λ byte. byte == 32) line
 
 -- decimal digits, one or more, of a number of 64 bits
-pub record IsNumber (n : ℕ) (word : List ℕ) : Type 0 where
+pub record IsNumber (number : ℕ) (word : List ℕ) : Type 0 where
   pub digits : IsNumeral 10 word
-  pub value : digits_value 10 word ≡ n
-  pub bound : n < 2 ^ 64
+  pub value : digits_value 10 word ≡ number
+  pub bound : number < 2 ^ 64
 
 abbrev pub side_word : Side → List ℕ
 side_word Client = codes "c"
@@ -50,40 +50,40 @@ bytes_word (byte ∷ bytes) = hex_of (byte ∷ bytes)
 
 -- A number of bytes, or the maximum.
 abbrev pub IsAmount : ℕ → List ℕ → Type 0
-IsAmount n word = IsNumber n word ⊎ ((word ≡ codes "all") × (n ≡ 2 ^ 64 - 1))
+IsAmount number word = IsNumber number word ⊎ ((word ≡ codes "all") × (number ≡ 2 ^ 64 - 1))
 
 -- ---- steps
 
 -- a side, a quality of service, a topic name as it is printed, and a payload
-pub record IsPublication (side : Side) (m : Message) (words : List (List ℕ)) : Type 0 where
+pub record IsPublication (side : Side) (message : Message) (words : List (List ℕ)) : Type 0 where
   pub qos : List ℕ
-  pub number : IsNumber (qos_number m.qos) qos
-  pub topic : IsTopicName m.topic
-  pub payload : IsBytes m.payload
-  pub size : length m.payload < 2 ^ 28
-  pub words_are : words ≡ publish_word m.retain ∷ side_word side ∷ qos ∷ escaped m.topic ∷ bytes_word m.payload ∷ []
+  pub number : IsNumber (qos_number message.qos) qos
+  pub topic : IsTopicName message.topic
+  pub payload : IsBytes message.payload
+  pub size : length message.payload < 2 ^ 28
+  pub words_are : words ≡ publish_word message.retain ∷ side_word side ∷ qos ∷ escaped message.topic ∷ bytes_word message.payload ∷ []
 
 -- a step in words
 abbrev pub Writes : Step → List (List ℕ) → Type 0
-Writes (Event (events.Publish side m)) words = IsPublication side m words
-Writes (Event (events.Deliver side n)) words = (amount : List ℕ) × IsAmount n amount × (words ≡ codes "to" ∷ side_word side ∷ amount ∷ [])
+Writes (Event (events.Publish side message)) words = IsPublication side message words
+Writes (Event (events.Deliver side number)) words = (amount : List ℕ) × IsAmount number amount × (words ≡ codes "to" ∷ side_word side ∷ amount ∷ [])
 Writes (Event (events.Drop side)) words = words ≡ codes "drop" ∷ side_word side ∷ []
 Writes (Event events.Restart) words = words ≡ codes "restart" ∷ []
 Writes (Event events.Leave) words = words ≡ codes "leave" ∷ []
 Writes (Event events.Open) words = words ≡ codes "open" ∷ []
-Writes (Event (events.Tick side n)) words = (ms : List ℕ) × IsNumber n ms × (words ≡ codes "tick" ∷ side_word side ∷ ms ∷ [])
+Writes (Event (events.Tick side number)) words = (ms : List ℕ) × IsNumber number ms × (words ≡ codes "tick" ∷ side_word side ∷ ms ∷ [])
 Writes Settle words = words ≡ codes "settle" ∷ []
 
 -- ---- schedules
 
 -- the number that there may be
 abbrev pub number_of : Option NonZeroU16 → Option ℕ
-number_of n = option_map non_zero_u16_get n
+number_of value = option_map non_zero_u16_get value
 
 -- A word for the receive window (4.3.3), and none without one.
 abbrev pub IsWindow : Option ℕ → List (List ℕ) → Type 0
 IsWindow None words = words ≡ []
-IsWindow (Some n) words = (word : List ℕ) × IsNumber n word × (1 ≤ n) × (n ≤ 65535) × (words ≡ word ∷ [])
+IsWindow (Some window) words = (word : List ℕ) × IsNumber window word × (1 ≤ window) × (window ≤ 65535) × (words ≡ word ∷ [])
 
 -- the bound on the remaining length (2.2.3), how many packet identifiers may be in use at a side
 -- (2.3.1), and how many messages of quality of service 2 a side has in its receiving window at
@@ -102,14 +102,14 @@ pub record IsWorldLine (limit capacity : ℕ) (window : Option ℕ) (words : Lis
   pub words_are : words ≡ codes "world" ∷ most ∷ room ∷ last
 
 -- the line for the world, and then a line for each step
-pub record IsSchedule (lines : List (List ℕ)) (s : Schedule) : Type 0 where
+pub record IsSchedule (lines : List (List ℕ)) (schedule : Schedule) : Type 0 where
   pub first : List ℕ
   pub others : List (List ℕ)
   pub lines_are : lines ≡ first ∷ others
-  pub world : IsWorldLine s.limits.most (non_zero_u16_get s.capacity) (number_of s.window) (words_of first)
-  pub steps : AllZip (λ step line. Writes step (words_of line)) s.steps.items others
+  pub world : IsWorldLine schedule.limits.most (non_zero_u16_get schedule.capacity) (number_of schedule.window) (words_of first)
+  pub steps : AllZip (λ step line. Writes step (words_of line)) schedule.steps.items others
 
--- the first line is none for a world
+-- the first line is not a line for a world
 pub record HasNoWorld (lines : List (List ℕ)) : Type 0 where
   pub first : List ℕ
   pub others : List (List ℕ)
@@ -117,16 +117,16 @@ pub record HasNoWorld (lines : List (List ℕ)) : Type 0 where
   pub no_world : (limit capacity : ℕ) (window : Option ℕ) → ¬ IsWorldLine limit capacity window (words_of first)
 
 -- the lines before this one, counted from 1, are a schedule, and this one is no step
-pub record HasNoStep (lines : List (List ℕ)) (n : ℕ) : Type 0 where
+pub record HasNoStep (lines : List (List ℕ)) (number : ℕ) : Type 0 where
   pub schedule : Schedule
   pub front : List (List ℕ)
   pub line : List ℕ
   pub others : List (List ℕ)
   pub lines_are : lines ≡ front ++ line ∷ others
-  pub place : n ≡ length front + 1
+  pub place : number ≡ length front + 1
   pub before : IsSchedule front schedule
   pub no_step : (step : Step) → ¬ Writes step (words_of line)
 
 -- the number of the first line that is of no kind, counted from 1
 abbrev pub IsBadLine : List (List ℕ) → ℕ → Type 0
-IsBadLine lines n = ((n ≡ 1) × HasNoWorld lines) ⊎ HasNoStep lines n
+IsBadLine lines number = ((number ≡ 1) × HasNoWorld lines) ⊎ HasNoStep lines number

@@ -19,24 +19,24 @@ line_with (word ∷ next ∷ words) = word ++ (codes " " ++ line_with (next ∷ 
 -- A word for the receive window, if there is one.
 abbrev pub window_words : Option ℕ → List (List ℕ)
 window_words None = []
-window_words (Some n) = decimal n ∷ []
+window_words (Some window) = decimal window ∷ []
 
 abbrev pub world_words : Schedule → List (List ℕ)
-world_words s = codes "world" ∷ decimal s.limits.most ∷ decimal (non_zero_u16_get s.capacity) ∷ window_words (number_of s.window)
+world_words schedule = codes "world" ∷ decimal schedule.limits.most ∷ decimal (non_zero_u16_get schedule.capacity) ∷ window_words (number_of schedule.window)
 
 -- numbers have no zeros in front, and a delivery always has one
 abbrev pub step_words : Step → List (List ℕ)
-step_words (Event (events.Publish side m)) = publish_word m.retain ∷ side_word side ∷ decimal (qos_number m.qos) ∷ escaped m.topic ∷ bytes_word m.payload ∷ []
-step_words (Event (events.Deliver side n)) = codes "to" ∷ side_word side ∷ decimal n ∷ []
+step_words (Event (events.Publish side message)) = publish_word message.retain ∷ side_word side ∷ decimal (qos_number message.qos) ∷ escaped message.topic ∷ bytes_word message.payload ∷ []
+step_words (Event (events.Deliver side number)) = codes "to" ∷ side_word side ∷ decimal number ∷ []
 step_words (Event (events.Drop side)) = codes "drop" ∷ side_word side ∷ []
 step_words (Event events.Restart) = codes "restart" ∷ []
 step_words (Event events.Leave) = codes "leave" ∷ []
 step_words (Event events.Open) = codes "open" ∷ []
-step_words (Event (events.Tick side n)) = codes "tick" ∷ side_word side ∷ decimal n ∷ []
+step_words (Event (events.Tick side number)) = codes "tick" ∷ side_word side ∷ decimal number ∷ []
 step_words Settle = codes "settle" ∷ []
 
 abbrev pub step_line : Step → List ℕ
 step_line step = line_with (step_words step)
 
 abbrev pub schedule_text : Schedule → List ℕ
-schedule_text s = line_with (world_words s) ++ flat_map step_line s.steps.items
+schedule_text schedule = line_with (world_words schedule) ++ flat_map step_line schedule.steps.items

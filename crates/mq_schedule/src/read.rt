@@ -65,8 +65,8 @@ fn read_steps(alloc: Global, lines: &str) -> Result<Vec<Step>, ScheduleFault>
 /// if an allocation fails.
 pub fn read_schedule(alloc: Global, text: &str) -> Result<Schedule, ScheduleFault>
     ensures reads { IfOk result (IsSchedule (lines_of text.now)) }
-    ensures line { (n : ℕ) → IsErrOf result (ScheduleFault.Line n)
-        → IsBadLine (lines_of text.now) n }
+    ensures line { (number : ℕ) → IsErrOf result (ScheduleFault.Line number)
+        → IsBadLine (lines_of text.now) number }
 {
     let (first, others) = first_part(without_feed(text), '\n');
     let (limits, capacity, window) = world(first).ok_or(ScheduleFault::Line(1))?;

@@ -15,9 +15,9 @@ pub record AcceptorState : Type 0 where
   pub is_broken : Bool
   pub code : ℤ
 
--- An acceptor has this number of connections left, and has failed for good or not. It returns this
--- result, and the last two arguments are its state after that. Only a connection is counted.
--- `Never` is returned only if all connections were accepted or the acceptor failed for good.
+-- An acceptor has this number of connections left, and has failed permanently or not. It returns
+-- this result, and the last two arguments are its state after that. Only a connection is counted.
+-- `Never` is returned only if all connections were accepted or the acceptor failed permanently.
 abbrev pub IsTaken : ℕ → Bool → Accepted → ℕ → Bool → Type 0
 IsTaken left broken (Connection stream) left_after broken_after = (left_after + 1 ≡ left) × (broken_after ≡ broken)
 IsTaken left broken Later left_after broken_after = (left_after ≡ left) × (broken_after ≡ broken)

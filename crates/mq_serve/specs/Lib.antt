@@ -1,10 +1,10 @@
 pub mod Accepting
 pub mod Calls
 pub mod Ends
+pub mod Inside
 pub mod Pending
 pub mod Polled
 pub mod Prelude
 pub mod Printed
 pub mod ReadOrder
-pub mod Wakers
 pub mod Working

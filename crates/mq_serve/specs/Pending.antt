@@ -13,7 +13,7 @@ pub record Pending : Type 0 where
 
 -- all pending bytes, in order
 abbrev pub bytes_of : Pending → List ℕ
-bytes_of p = p.front ++ p.later
+bytes_of pending = pending.front ++ pending.later
 
 -- Some bytes from the front were written, and exactly these are not pending any more.
 pub record WritesFront (pending rest : List ℕ) (old new : Option (List ℕ)) : Type 0 where

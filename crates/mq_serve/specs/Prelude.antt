@@ -18,7 +18,7 @@ pub use Rattle.mq_serve.specs.Pending.{IsWhole, after_failed_write, IsSent, Send
 pub use Rattle.mq_serve.specs.Polled.{written_of}
 pub use Rattle.mq_serve.specs.Printed.{end_line, end_lines, session_line, AreSessions, IsEarly, IsServeRun, ServeEnds}
 pub use Rattle.mq_serve.specs.ReadOrder.{after_empty_read, idle, is_later, is_read, reads_beside, seat_of, serving, waits, with_seat, with_waiting}
-pub use Rattle.mq_serve.specs.Wakers.{after_act, after_acts, call_if, must_wake, serves, uncalled, vacant}
+pub use Rattle.mq_serve.specs.Inside.Wakers.{after_act, after_acts, call_if, must_wake, serves, uncalled, vacant}
 pub use Rattle.mq_serve.specs.Working.{AreReceipts, HasWorked}
 pub use Rattle.mq_serve.specs.declared.output.WriteNext.TheVariants.{Pause}
 pub use Rattle.mq_serve.specs.declared.serve_end.ServeEnd.TheVariants.{Memory}

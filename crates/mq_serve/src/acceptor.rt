@@ -120,7 +120,7 @@ fn is_dead(code: i32) -> bool
     matches!(code, 9 | 22 | 88 | 95)
 }
 
-// What follows a failure of this kind and with this error number.
+// The next action after a failure of this kind with this error number.
 fn after_failure(kind: ErrorKind, code: Option<i32>) -> AfterFailure
     ensures { result ≡ after_failure kind code }
 {

@@ -3,7 +3,7 @@
 ghost use Rattle.std.specs.Prelude.{◌≡◌, ◌≤◌, Bool, true, length, take, IfNone, IfOk, MatchOption, None, OnErr, OnOk};
 ghost use Rattle.mq_serve.specs.Prelude.{Appends, Keeps, AppendsFront, Arrives, IsWhole, after_failed_write, Pause};
 
-use mq_stream::{Broken, ReadOutcome};
+use mq_stream::{ReadOutcome, StreamError};
 use std::io;
 use std::io::{ErrorKind, Write};
 
@@ -62,7 +62,7 @@ fn write_once<W: Duplex, P: Patience>(
     writer: &mut W,
     bytes: &[u8],
     patience: &mut P,
-) -> Result<Option<usize>, Broken>
+) -> Result<Option<usize>, StreamError>
     ensures ok { IfOk result (λ written. MatchOption written (Keeps (W.contents writer.old) (W.contents writer.new))
         (λ n. (n ≤ length bytes.now)
         × Appends (W.contents writer.old) (W.contents writer.new) (take n bytes.now))) }
@@ -70,7 +70,7 @@ fn write_once<W: Duplex, P: Patience>(
     ensures pause { IfOk result (λ written. IfNone written (W.heard writer.new ≡ true)) }
 {
     match writer.write(bytes) {
-        Ok(0) => Err(Broken),
+        Ok(0) => Err(StreamError),
         Ok(count) => {
             patience.on_progress();
             Ok(Some(count))
@@ -80,7 +80,7 @@ fn write_once<W: Duplex, P: Patience>(
             match patience.on_error(&error, has_input) {
                 WriteNext::Retry => Ok(Some(0)),
                 WriteNext::Pause => Ok(None),
-                WriteNext::Fail => Err(Broken),
+                WriteNext::Fail => Err(StreamError),
             }
         }
     }
@@ -94,7 +94,7 @@ pub(crate) fn write_part<W: Duplex, P: Patience>(
     writer: &mut W,
     bytes: &[u8],
     patience: &mut P,
-) -> (usize, Result<(), Broken>)
+) -> (usize, Result<(), StreamError>)
     ensures part { Appends (W.contents writer.old) (W.contents writer.new) (take result.0 bytes.now) }
     ensures bound { result.0 ≤ length bytes.now }
     ensures whole { OnOk result.1 (IsWhole result.0 bytes.now (W.heard writer.new)) }
@@ -107,10 +107,10 @@ pub(crate) fn write_part<W: Duplex, P: Patience>(
         match write_once(writer, &bytes[done..], patience) {
             Ok(Some(count)) => done += count,
             Ok(None) => return (done, Ok(())),
-            Err(Broken) => return (done, Err(Broken)),
+            Err(StreamError) => return (done, Err(StreamError)),
         }
     }
-    (done, Err(Broken))
+    (done, Err(StreamError))
 }
 
 /// Writes bytes until all are written, or until there is a reason to pause. Returns the number of
@@ -120,7 +120,7 @@ pub fn write_front<W: Duplex, P: Patience>(
     writer: &mut W,
     bytes: &[u8],
     patience: &mut P,
-) -> Result<usize, Broken>
+) -> Result<usize, StreamError>
     ensures ok { IfOk result (λ n.
         Appends (W.contents writer.old) (W.contents writer.new) (take n bytes.now)) }
     ensures bound { IfOk result (λ n. n ≤ length bytes.now) }

@@ -5,7 +5,7 @@ ghost use Rattle.mq_serve.specs.Prelude.{Keeps, AppendsFront, IsSent, Sends, Wri
 
 use crate::output::{Duplex, Patience, write_front, write_part};
 use bytes::BytesMut;
-use mq_stream::Broken;
+use mq_stream::StreamError;
 use std::alloc::{AllocError, Global};
 use std::marker::Model;
 use std::mem;
@@ -80,7 +80,7 @@ impl PendingOutput {
         &mut self,
         writer: &mut W,
         patience: &mut P,
-    ) -> Result<(), Broken>
+    ) -> Result<(), StreamError>
         ensures front { WritesFront (bytes_of self.old) (bytes_of self.new)
             (W.contents writer.old) (W.contents writer.new) }
         ensures whole { OnOk result
@@ -101,7 +101,7 @@ impl PendingOutput {
         writer: &mut W,
         bytes: &[u8],
         patience: &mut P,
-    ) -> Result<(), Broken>
+    ) -> Result<(), StreamError>
         ensures ok { OnOk result (Sends bytes.now (bytes_of self.old) (bytes_of self.new)
             (W.contents writer.old) (W.contents writer.new)) }
         ensures err { OnErr result
@@ -122,7 +122,7 @@ impl PendingOutput {
         }
         match self.keep(rest) {
             Ok(()) => Ok(()),
-            Err(_) => Err(Broken),
+            Err(_) => Err(StreamError),
         }
     }
 }

@@ -8,7 +8,7 @@ use crate::pending_output::PendingOutput;
 use crate::wakers::ReadTurns;
 use mio::net::TcpStream;
 use mio::{Events, Interest, Poll, Token, Waker};
-use mq_stream::{Broken, ReadOutcome, Stream};
+use mq_stream::{ReadOutcome, Stream, StreamError};
 use std::alloc::Global;
 use std::io;
 use std::io::{ErrorKind, Read};
@@ -238,7 +238,7 @@ impl<'a, R: Wait + Clock, D: Duplex> PolledStream<'a, R, D> {
     }
 
     // Writes pending output until bytes of the peer are there.
-    fn write_pending(&mut self) -> Result<(), Broken>
+    fn write_pending(&mut self) -> Result<(), StreamError>
         ensures front { WritesFront (bytes_of self.old.pending) (bytes_of self.new.pending)
             self.old.taken self.new.taken }
         ensures whole { OnOk result
@@ -251,7 +251,7 @@ impl<'a, R: Wait + Clock, D: Duplex> PolledStream<'a, R, D> {
     }
 
     // Sends bytes behind the pending output, until there is a reason to pause. The rest is pending.
-    fn send(&mut self, bytes: &[u8]) -> Result<(), Broken>
+    fn send(&mut self, bytes: &[u8]) -> Result<(), StreamError>
         ensures ok { OnOk result (Sends bytes.now (bytes_of self.old.pending) (bytes_of self.new.pending)
             self.old.taken self.new.taken) }
         ensures err { OnErr result (AppendsFront self.old.taken self.new.taken bytes.now) }
@@ -279,7 +279,7 @@ impl<'a, R: Wait + Clock, D: Duplex> PolledStream<'a, R, D> {
         ensures written { Keeps (written_of self.old) (written_of self.new) }
     {
         for _ in 0..u64::MAX {
-            if let Err(Broken) = self.write_pending() {
+            if let Err(StreamError) = self.write_pending() {
                 return ReadOutcome::Failed;
             }
             let outcome = self.read_now(buffer);
@@ -393,7 +393,7 @@ impl<R: Wait + Clock, D: Duplex> Stream for PolledStream<'_, R, D> {
 
     /// Writes the bytes as the connection takes them. If bytes of the peer come meanwhile, the rest
     /// is kept, and written by the next reads. Fails if the connection takes none for too long.
-    fn write_all(&mut self, bytes: &[u8]) -> Result<(), Broken> {
+    fn write_all(&mut self, bytes: &[u8]) -> Result<(), StreamError> {
         self.send(bytes)
     }
 }

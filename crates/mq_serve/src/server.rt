@@ -47,7 +47,7 @@ impl Retention {
     }
 }
 
-/// What a worker starts with.
+/// The parts with which a worker starts.
 #[derive(Drop)]
 pub struct WorkerStart<L: Ledger> {
     /// Its share.

@@ -115,7 +115,7 @@ pub fn read_session(
     ensures limit { IfOk result (λ r. r.0.end.limit ≡ config.limits) }
     ensures output { IfOk result (λ r. r.0.end.output ≡ []) }
     ensures held { IfOk result (λ r. r.0.end.held ≡ []) }
-    ensures received { IfOk result (λ r. (i : ℕ) → set.contains r.0.end.end.received i ≡ true → IsIdentifier i) }
+    ensures received { IfOk result (λ r. (identifier : ℕ) → set.contains r.0.end.end.received identifier ≡ true → IsIdentifier identifier) }
 {
     let (key, rest) = read_count(bytes)?;
     let (left_at, rest) = read_eight(rest)?;

@@ -125,7 +125,7 @@ pub fn put_session(
     requires { end.now.end.known ≡ true }
     ensures bytes { let session : HubSession = record { client = client.now; key = key; end = end.now.end; left = left_at } in
         OnOk result (out.new.items ≡ out.old.items ++ saved_session session) }
-    ensures received { OnOk result ((i : ℕ) → set.contains end.now.end.received i ≡ true → IsIdentifier i) }
+    ensures received { OnOk result ((identifier : ℕ) → set.contains end.now.end.received identifier ≡ true → IsIdentifier identifier) }
 {
     put_count(out, key.get())?;
     put_eight(out, left_at)?;

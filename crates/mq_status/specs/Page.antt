@@ -36,7 +36,7 @@ item_text heading number = codes "<tr><th>" ++ (heading ++ (codes "<td>" ++ (dec
 
 -- a list under a title
 abbrev pub list_text : List ℕ → List (List ℕ × ℕ) → List ℕ
-list_text title items = title_text title ++ (flat_map (λ i. item_text i.0 i.1) items ++ codes "</table>\n")
+list_text title items = title_text title ++ (flat_map (λ item. item_text item.0 item.1) items ++ codes "</table>\n")
 
 abbrev pub gauges_text : Gauges → List ℕ
 gauges_text gauges =

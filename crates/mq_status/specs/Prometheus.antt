@@ -18,7 +18,7 @@ sample_text name key label value =
 -- a family of counters, with the values of its label
 abbrev pub family_text : List ℕ → List ℕ → List ℕ → List (List ℕ × ℕ) → List ℕ
 family_text name help key samples =
-    head_text name help (codes "counter") ++ flat_map (λ s. sample_text name key s.0 s.1) samples
+    head_text name help (codes "counter") ++ flat_map (λ sample. sample_text name key sample.0 sample.1) samples
 
 -- a family of one sample without a label
 abbrev pub single_text : List ℕ → List ℕ → List ℕ → ℕ → List ℕ
@@ -80,7 +80,7 @@ traffic_text counts =
 
 -- a number with zeros before it, up to six digits
 abbrev pub six_digits : ℕ → List ℕ
-six_digits n = replicate (6 - length (decimal n)) 48 ++ decimal n
+six_digits number = replicate (6 - length (decimal number)) 48 ++ decimal number
 
 -- the line of the rounds' time: microseconds as seconds with six decimals
 abbrev pub seconds_text : ℕ → List ℕ

@@ -27,7 +27,7 @@ pub struct Gauges {
     pub pending_bytes: u64,
 }
 
-/// The counters and gauges of a broker.
+/// The counters and gauges of a broker. Calls may come in any order.
 #[derive(Drop)]
 pub struct Metrics {
     counts: [u64; COUNTERS],

@@ -352,10 +352,10 @@ pub fn password_laws()
 pub enum PasswordLineError {
     /// The name is empty, begins with `#`, has over 65,535 bytes, or has a colon or a control
     /// character.
-    #[error("the name can't stand in a file of passwords")]
+    #[error("the name is not allowed in a file of passwords")]
     Name,
     /// The salt has over 65,535 bytes, or has a colon or a control character.
-    #[error("the salt can't stand in a file of passwords")]
+    #[error("the salt is not allowed in a file of passwords")]
     Salt,
     /// The password has over 65,535 bytes, so no CONNECT can have it (3.1.3.5).
     #[error("the password has over 65,535 bytes")]

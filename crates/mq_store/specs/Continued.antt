@@ -26,7 +26,7 @@ IsContinued path bytes first second old new =
     IsSwitched (snapshot_path path) bytes (journal_path path first) (journal_path path second)
     (files_after old).now (files_after new).now
 
--- A crash at any time leaves the old file with the journal of the first number, as they were, or
+-- A crash at any time leaves the old file with the journal of the first number, both unchanged, or
 -- the file with these bytes with the journal of the second one, which is empty. The writes of an
 -- open journal are in its own record, and not in that of the folder.
 abbrev pub MayContinue : (path bytes : List ℕ) (first second : ℕ) → List FolderCall → List FolderCall → Type 0

@@ -26,7 +26,7 @@ pub struct Elapsed<'a, T: time::Clock> {
     last: u64,
 }
 
-impl<T: time::Clock> Model for Elapsed<'_, T> {
+impl<'a, T: time::Clock> Model for Elapsed<'a, T> {
     ghost use Rattle.std.specs.Prelude.{ℕ};
 
     ghost Value = { ℕ };

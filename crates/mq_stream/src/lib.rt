@@ -8,5 +8,5 @@ mod stream;
 
 pub use crate::clock::{Clock, Elapsed};
 pub use crate::stream::{
-    Broken, OnInterrupt, ReadOutcome, Retry, Socket, SocketStream, Stream, write_bytes,
+    OnInterrupt, ReadOutcome, Retry, Socket, SocketStream, Stream, StreamError, write_bytes,
 };

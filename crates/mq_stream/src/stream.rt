@@ -40,9 +40,9 @@ impl ReadOutcome {
 /// A write failed. The stream took only a part of the bytes, possibly none.
 #[derive(Clone, Copy, Debug, PartialEq, Eq, Error)]
 #[error("the stream failed")]
-pub struct Broken;
+pub struct StreamError;
 
-/// A stream of bytes in both directions.
+/// A stream of bytes in both directions. Calls may come in any order.
 ///
 /// Contracts see which bytes are to come, which were written and whether the stream is closed, as
 /// far as an implementation says so. Of a socket nothing is known.
@@ -63,7 +63,7 @@ pub trait Stream {
         ensures over { IsOver result → closed self.new ≡ true };
 
     /// Writes all of `bytes`.
-    fn write_all(&mut self, bytes: &[u8]) -> Result<(), Broken>
+    fn write_all(&mut self, bytes: &[u8]) -> Result<(), StreamError>
         ensures ok { OnOk result (Appends (written self.old) (written self.new) bytes.now) }
         ensures err { OnErr result
             (AppendsFront (written self.old) (written self.new) bytes.now) }
@@ -91,7 +91,7 @@ impl<R: Read, W: Write> Stream for Socket<R, W> {
         read_some(&mut self.reader, buffer)
     }
 
-    fn write_all(&mut self, bytes: &[u8]) -> Result<(), Broken> {
+    fn write_all(&mut self, bytes: &[u8]) -> Result<(), StreamError> {
         write_bytes(&mut self.writer, bytes, &mut OnInterrupt)
     }
 }
@@ -109,7 +109,7 @@ impl<T: Read + Write> Stream for SocketStream<T> {
         read_some(&mut self.0, buffer)
     }
 
-    fn write_all(&mut self, bytes: &[u8]) -> Result<(), Broken> {
+    fn write_all(&mut self, bytes: &[u8]) -> Result<(), StreamError> {
         write_bytes(&mut self.0, bytes, &mut OnInterrupt)
     }
 }
@@ -163,7 +163,7 @@ pub fn write_bytes<W: Write, P: Retry>(
     writer: &mut W,
     bytes: &[u8],
     retry: &mut P,
-) -> Result<(), Broken>
+) -> Result<(), StreamError>
     ensures ok { OnOk result (Appends (W.contents writer.old) (W.contents writer.new) bytes.now) }
     ensures err { OnErr result
         (AppendsFront (W.contents writer.old) (W.contents writer.new) bytes.now) }
@@ -174,11 +174,11 @@ pub fn write_bytes<W: Write, P: Retry>(
             return Ok(());
         }
         match writer.write(rest) {
-            Ok(0) => return Err(Broken),
+            Ok(0) => return Err(StreamError),
             Ok(count) => rest = &rest[count..],
-            Err(error) if !retry.again(&error) => return Err(Broken),
+            Err(error) if !retry.again(&error) => return Err(StreamError),
             Err(_) => {}
         }
     }
-    Err(Broken)
+    Err(StreamError)
 }

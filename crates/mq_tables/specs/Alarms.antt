@@ -27,30 +27,30 @@ pub record AlarmTable : Type 0 where
 
 -- their order: the earliest first; at the same time, by connection
 abbrev pub soonest_first : Reverse Alarm → Reverse Alarm → Ordering
-soonest_first x y =
-    ordering_then (nat_cmp y.0.until x.0.until) (ordering_then (nat_cmp y.0.conn.worker x.0.conn.worker) (nat_cmp y.0.conn.nth x.0.conn.nth))
+soonest_first first second =
+    ordering_then (nat_cmp second.0.until first.0.until) (ordering_then (nat_cmp second.0.conn.worker first.0.conn.worker) (nat_cmp second.0.conn.nth first.0.conn.nth))
 
 -- no alarm of this connection rings before this time
 abbrev pub IsQuiet : AlarmTable → Conn → ℕ → Type 0
-IsQuiet a k now = (now ≤ a.until) × All (λ r. r.0.conn ≡ k → now ≤ r.0.until) a.alarms
+IsQuiet table conn now = (now ≤ table.until) × All (λ alarm. alarm.0.conn ≡ conn → now ≤ alarm.0.until) table.alarms
 
 -- before one of its alarms rings, a connection that was opened at this time is not late
 abbrev pub IsAwaited : Option ℕ → AlarmTable → Conn → ℕ → ConnectionState → Type 0
-IsAwaited within a k since s = (now : ℕ) → IsQuiet a k now → is_late_on within now since s ≡ false
+IsAwaited within table conn since stage = (now : ℕ) → IsQuiet table conn now → is_late_on within now since stage ≡ false
 
 -- every alarm of the first table that rings by some time makes the second table ring by then
 abbrev pub RingsWith : AlarmTable → AlarmTable → Type 0
-RingsWith a b = (k : Conn) (now : ℕ) → IsQuiet b k now → IsQuiet a k now
+RingsWith first second = (conn : Conn) (now : ℕ) → IsQuiet second conn now → IsQuiet first conn now
 
 -- this connection is one of these
 abbrev pub is_named : Conn → List Conn → Bool
-is_named k [] = false
-is_named k (n ∷ ns) = same_conn k n || is_named k ns
+is_named conn [] = false
+is_named conn (first ∷ rest) = same_conn conn first || is_named conn rest
 
 -- each of these connections is not late before an alarm of its rings
 abbrev pub AreAwaited : Option ℕ → AlarmTable → List (Conn × Connection) → Type 0
-AreAwaited within a = AllByRecursion (λ e. IsAwaited within a e.1.conn e.1.since e.1.stage)
+AreAwaited within table = AllByRecursion (λ entry. IsAwaited within table entry.1.conn entry.1.since entry.1.stage)
 
 -- the same, except for the connections with these names
 abbrev pub AreAwaitedBut : Option ℕ → List Conn → AlarmTable → List (Conn × Connection) → Type 0
-AreAwaitedBut within names a = AllByRecursion (λ e. is_named e.1.conn names ≡ false → IsAwaited within a e.1.conn e.1.since e.1.stage)
+AreAwaitedBut within names table = AllByRecursion (λ entry. is_named entry.1.conn names ≡ false → IsAwaited within table entry.1.conn entry.1.since entry.1.stage)

@@ -1,4 +1,4 @@
--- What a broker asks of the end of a session: to process a packet, or to answer a request.
+-- The calls of a broker to the end of a session: to process a packet, or to answer a request.
 use Rattle.std.specs.Prelude.{◌≡◌, None, ℕ, Option, Bool, false, ◌+◌, ◌++◌, option_to_list, List, Result, IsOk, IfOk, OnErr, true, Some}
 use Rattle.std.specs.declared.alloc.AllocError.{AllocError}
 use Rattle.mq_packet.specs.declared.message.Message.{Message}
@@ -17,51 +17,51 @@ use Rattle.mq_tables.specs.Sessions.{session_at, with_server}
 
 -- the reply of the end: to a packet (3.1 to 3.14), by SUBACK (3.9), by UNSUBACK (3.11)
 abbrev pub reply_of : Call → End → Reply
-reply_of (Takes now p) e = server_gets p e
-reply_of (Grants i codes) e = subacks i codes e
-reply_of (Drops i) e = unsubacks i e
+reply_of (Takes now packet) end = server_gets packet end
+reply_of (Grants identifier codes) end = subacks identifier codes end
+reply_of (Drops identifier) end = unsubacks identifier end
 
 -- the answer is within the size limit (2.2.3)
 abbrev pub IsAllowed : Call → EndState → Type 0
-IsAllowed (Takes now p) s = Unit {0}
-IsAllowed (Grants i codes) s = suback_refusal s.limit.most codes s.end ≡ None
-IsAllowed (Drops i) s = unsuback_refusal s.limit.most s.end ≡ None
+IsAllowed (Takes now packet) state = Unit {0}
+IsAllowed (Grants identifier codes) state = suback_refusal state.limit.most codes state.end ≡ None
+IsAllowed (Drops identifier) state = unsuback_refusal state.limit.most state.end ≡ None
 
--- the PUBLISH of a message comes at this time, with this delivery (3.3)
+-- the PUBLISH of a message arrives at this time, with this delivery (3.3)
 abbrev pub publish_call : ℕ → Message → Option Delivery → Call
-publish_call now m delivery = Takes now (packets.Publish (record { message = m; delivery = delivery }))
+publish_call now message delivery = Takes now (packets.Publish (record { message = message; delivery = delivery }))
 
 -- it stores an identifier, of a message of quality of service 2 (4.3.3)
 abbrev pub is_storing : Call → Bool
-is_storing (Takes now p) = is_exactly_once p
-is_storing (Grants i codes) = false
-is_storing (Drops i) = false
+is_storing (Takes now packet) = is_exactly_once packet
+is_storing (Grants identifier codes) = false
+is_storing (Drops identifier) = false
 
 -- An end made a reply: its packets are queued, and its limits are unchanged.
-pub record Replies (r : Reply) (old new : EndState) : Type 0 where
-  pub end : new.end ≡ r.end
-  pub output : new.output ≡ old.output ++ encodings r.out
+pub record Replies (reply : Reply) (old new : EndState) : Type 0 where
+  pub end : new.end ≡ reply.end
+  pub output : new.output ≡ old.output ++ encodings reply.out
   pub capacity : new.capacity ≡ old.capacity
   pub limit : new.limit ≡ old.limit
 
 -- The outcome reports what happened, and why the end closed.
-pub record Reports (r : Reply) (o : PacketOutcome) (old new : EndState) : Type 0 where
-  pub replies : Replies r old new
-  pub happening : option_to_list o.happening ≡ r.happenings
-  pub close : o.closed ≡ r.close
+pub record Reports (reply : Reply) (outcome : PacketOutcome) (old new : EndState) : Type 0 where
+  pub replies : Replies reply old new
+  pub happening : option_to_list outcome.happening ≡ reply.happenings
+  pub close : outcome.closed ≡ reply.close
 
 -- An end served a call, or memory ran out and it is unchanged. If the answer fits its room, memory
 -- runs out only if an identifier is stored. The room for later messages stays.
 pub record Serves (call : Call) (answer : Result PacketOutcome AllocError) (old new : EndState) : Type 0 where
-  pub ok : IfOk answer (λ o. Reports (reply_of call old.end) o old new)
+  pub ok : IfOk answer (λ outcome. Reports (reply_of call old.end) outcome old new)
   pub err : OnErr answer (new ≡ old)
   pub within : is_storing call ≡ false → FitsRoom (reply_of call old.end).out old → IsOk answer
-  pub kept : (ms : List Message) (more : ℕ) → HasRoom ms (packets_size (reply_of call old.end).out + more) old → HasRoom ms more new
+  pub kept : (messages : List Message) (more : ℕ) → HasRoom messages (packets_size (reply_of call old.end).out + more) old → HasRoom messages more new
 
 -- the session of a key exists, its end is connected, and the call is allowed
-pub record CanServe (key : ℕ) (call : Call) (ts : List BrokerSession) : Type 0 where
+pub record CanServe (key : ℕ) (call : Call) (sessions : List BrokerSession) : Type 0 where
   pub session : BrokerSession
-  pub there : session_at key ts ≡ Some session
+  pub there : session_at key sessions ≡ Some session
   pub up : is_up session.end.end.state ≡ true
   pub allowed : IsAllowed call session.end
 

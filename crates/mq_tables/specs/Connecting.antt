@@ -15,18 +15,18 @@ use Rattle.mq_tables.specs.Sessions.{session_at, with_server}
 -- an end after it processed a CONNECT on a new connection, now: CONNACK and the packets to send
 -- again are queued (4.4)
 abbrev pub connected_end : Connect → ℕ → EndState → EndState
-connected_end c now s = record s { end = (greeting c s.end).end; output = encodings (greeting c s.end).out; held = []; last_activity = now }
+connected_end connect now state = record state { end = (greeting connect state.end).end; output = encodings (greeting connect state.end).out; held = []; last_activity = now }
 
 -- an end with other room
 abbrev pub roomed : Room → EndState → EndState
-roomed r s = record s { room = r }
+roomed room state = record state { room = room }
 
 -- the end of the session of a key processed a CONNECT, for which room was made
-pub record HasConnected (c : Connect) (now key : ℕ) (old new : List BrokerSession) : Type 0 where
+pub record HasConnected (connect : Connect) (now key : ℕ) (old new : List BrokerSession) : Type 0 where
   pub session : BrokerSession
   pub there : session_at key old ≡ Some session
   pub room : Room
-  pub after : new ≡ with_server key (connected_end c now (roomed room session.end)) old
+  pub after : new ≡ with_server key (connected_end connect now (roomed room session.end)) old
 
 -- the end of the session of a key has other room
 pub record IsRoomed (key : ℕ) (old new : List BrokerSession) : Type 0 where
@@ -37,23 +37,23 @@ pub record IsRoomed (key : ℕ) (old new : List BrokerSession) : Type 0 where
 
 -- the session of a key has room to process this CONNECT on a new connection, then to send these
 -- messages and `more` bytes besides
-pub record HasConnectRoomAt (c : Connect) (key : ℕ) (ms : List Message) (more : ℕ) (ts : List BrokerSession) : Type 0 where
+pub record HasConnectRoomAt (connect : Connect) (key : ℕ) (messages : List Message) (more : ℕ) (sessions : List BrokerSession) : Type 0 where
   pub session : BrokerSession
-  pub there : session_at key ts ≡ Some session
-  pub connect_end : HasRise c ms more session.end
+  pub there : session_at key sessions ≡ Some session
+  pub connect_end : HasRise connect messages more session.end
 
 -- an end without connection and pending output, which keeps its room
 abbrev pub left : EndState → EndState
-left e = record e { end = over e.end; held = []; output = [] }
+left state = record state { end = over state.end; held = []; output = [] }
 
 -- an end without connection and pending output
 abbrev pub parted : EndState → EndState
-parted e = record e { end = over e.end; held = []; output = []; room = no_bytes e.room }
+parted state = record state { end = over state.end; held = []; output = []; room = no_bytes state.room }
 
--- an end that continues a connection with these terms, whose last packet came at this time
+-- an end that continues a connection with these terms, whose last packet arrived at this time
 abbrev pub continued : ConnectionTerms → ℕ → EndState → EndState
-continued terms last_activity s = record s {
-  end = record s.end { state = Connected; clean = terms.clean_session; keep_alive = terms.keep_alive };
+continued terms last_activity state = record state {
+  end = record state.end { state = Connected; clean = terms.clean_session; keep_alive = terms.keep_alive };
   last_activity = last_activity;
 }
 

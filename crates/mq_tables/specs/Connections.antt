@@ -27,22 +27,22 @@ pub record ConnectionList : Type 0 where
 
 -- a connection as the broker's definition sees it
 abbrev pub connection_of : Connection → HubConnection
-connection_of c = record { conn = c.conn; stage = c.stage; held = c.decoder.held; waiting = c.waiting; since = c.since }
+connection_of connection = record { conn = connection.conn; stage = connection.stage; held = connection.decoder.held; waiting = connection.waiting; since = connection.since }
 
 abbrev pub connections_of : List (Conn × Connection) → List HubConnection
-connections_of es = map (λ e. connection_of e.1) es
+connections_of entries = map (λ entry. connection_of entry.1) entries
 
 -- the connection at this index has this name
 abbrev pub IsNamedAt : Conn → ℕ → List (Conn × Connection) → Type 0
-IsNamedAt k n es = (e : Conn × Connection) × (slice_get es n ≡ Some e) × (same_conn k e.0 ≡ true)
+IsNamedAt conn index entries = (entry : Conn × Connection) × (slice_get entries index ≡ Some entry) × (same_conn conn entry.0 ≡ true)
 
 -- a decoder has these limits, met no error, and holds no whole packet
 abbrev pub IsDecoding : Bounds → State → Type 0
-IsDecoding limits d = (d.limit ≡ limits) × (d.failed ≡ None) × Pending limits d.held
+IsDecoding limits decoder = (decoder.limit ≡ limits) × (decoder.failed ≡ None) × Pending limits decoder.held
 
 -- so does the decoder of a connection
 abbrev pub IsReading : Bounds → Connection → Type 0
-IsReading limits c = IsDecoding limits c.decoder
+IsReading limits connection = IsDecoding limits connection.decoder
 
 -- How connections are served: the limits of their packets, the time within which each must send
 -- CONNECT, and the alarms.
@@ -56,19 +56,19 @@ service limits alarms = record { bounds = limits.packets; within = limits.connec
 
 -- it is not late up to this time (3.1, 3.1.2.10)
 abbrev pub IsTimely : Option ℕ → ℕ → ℕ → ConnectionState → Type 0
-IsTimely within due since s = (now : ℕ) → now ≤ due → is_late_on within now since s ≡ false
+IsTimely within due since stage = (now : ℕ) → now ≤ due → is_late_on within now since stage ≡ false
 
 -- a connection is served in this way
 abbrev pub IsServedBy : Service → Connection → Type 0
-IsServedBy by c = IsReading by.bounds c × IsAwaited by.within by.alarms c.conn c.since c.stage
+IsServedBy by connection = IsReading by.bounds connection × IsAwaited by.within by.alarms connection.conn connection.since connection.stage
 
 -- and is stored under its name
 abbrev pub IsServed : Service → Conn × Connection → Type 0
-IsServed by e = (e.0 ≡ e.1.conn) × IsServedBy by e.1
+IsServed by entry = (entry.0 ≡ entry.1.conn) × IsServedBy by entry.1
 
 -- each connection, with the key of the session for which it is connected
 abbrev pub ups_of : List (Conn × Connection) → List (Conn × Option ℕ)
-ups_of es = map (λ e. (e.1.conn, key_on e.1.stage)) es
+ups_of entries = map (λ entry. (entry.1.conn, key_on entry.1.stage)) entries
 
 abbrev pub has_key : ℕ → Option ℕ → Bool
 has_key key None = false
@@ -77,35 +77,35 @@ has_key key (Some other) = other == key
 -- the first connection that is connected for a key
 abbrev pub up_in : ℕ → List (Conn × Option ℕ) → Option Conn
 up_in key [] = None
-up_in key (u ∷ us) = if has_key key u.1 then Some u.0 else up_in key us
+up_in key (first ∷ rest) = if has_key key first.1 then Some first.0 else up_in key rest
 
 -- no two are connected for one key
 abbrev pub AreUpOnce : List (Conn × Option ℕ) → Type 0
 AreUpOnce [] = Unit {0}
-AreUpOnce (u ∷ us) = ((key : ℕ) → u.1 ≡ Some key → up_in key us ≡ None) × AreUpOnce us
+AreUpOnce (first ∷ rest) = ((key : ℕ) → first.1 ≡ Some key → up_in key rest ≡ None) × AreUpOnce rest
 
 -- The invariant of the table: each connection is stored under its name, once. No two are connected
 -- for one client, `find` returns that connection, and `count` is the number of those that are
 -- connected.
-pub record AreConnections (by : Service) (es : List (Conn × Connection)) (find : ℕ → Option Conn) (count : ℕ) : Type 0 where
-  pub served : AllByRecursion (IsServed by) es
-  pub distinct : IsDistinct same_conn (keys_of es)
-  pub singly : AreUpOnce (ups_of es)
-  pub found : (key : ℕ) → find key ≡ up_in key (ups_of es)
-  pub counted : count ≡ count_by (λ u. is_some u.1) (ups_of es)
+pub record AreConnections (by : Service) (entries : List (Conn × Connection)) (find : ℕ → Option Conn) (count : ℕ) : Type 0 where
+  pub served : AllByRecursion (IsServed by) entries
+  pub distinct : IsDistinct same_conn (keys_of entries)
+  pub singly : AreUpOnce (ups_of entries)
+  pub found : (key : ℕ) → find key ≡ up_in key (ups_of entries)
+  pub counted : count ≡ count_by (λ pair. is_some pair.1) (ups_of entries)
 
 -- a closed connection with this pending output
 abbrev pub left_with : List ℕ → HubConnection → HubConnection
-left_with b x = record x { stage = Closed; held = []; waiting = b }
+left_with bytes connection = record connection { stage = Closed; held = []; waiting = bytes }
 
 -- a connection that holds these bytes of an incomplete packet
 abbrev pub holds : List ℕ → HubConnection → HubConnection
-holds b x = record x { held = b }
+holds bytes connection = record connection { held = bytes }
 
--- a connection whose last packet came at this time
+-- a connection whose last packet arrived at this time
 abbrev pub touched_at : ℕ → HubConnection → HubConnection
-touched_at now x = record x { stage = touched now x.stage }
+touched_at now connection = record connection { stage = touched now connection.stage }
 
 -- a connection whose client is connected for the session of a key
 abbrev pub connected_for : ℕ → ConnectionTerms → ℕ → HubConnection → HubConnection
-connected_for key terms last_activity x = record x { stage = ConnectedAs key terms last_activity }
+connected_for key terms last_activity connection = record connection { stage = ConnectedAs key terms last_activity }

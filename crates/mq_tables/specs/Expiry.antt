@@ -7,12 +7,12 @@ use Rattle.mq_tables.specs.declared.sessions.session.BrokerSession.{BrokerSessio
 
 -- the session's client is not connected, and disconnected longer ago than the limit
 abbrev pub is_gone : Option ℕ → ℕ → List HubConnection → BrokerSession → Bool
-is_gone expiry now xs t = not (is_some (up_on t.key xs)) && has_passed expiry t.left_at now
+is_gone expiry now connections session = not (is_some (up_on session.key connections)) && has_passed expiry session.left_at now
 
 -- the keys of these sessions
 abbrev pub gone_keys : Option ℕ → ℕ → List HubConnection → List BrokerSession → List ℕ
-gone_keys expiry now xs ts = map (λ t. t.key) (filter (is_gone expiry now xs) ts)
+gone_keys expiry now connections sessions = map (λ session. session.key) (filter (is_gone expiry now connections) sessions)
 
 -- no session is expired at this time
 abbrev pub AreKept : Option ℕ → ℕ → List HubConnection → List BrokerSession → Type 0
-AreKept expiry now xs = AllByRecursion (λ t. is_gone expiry now xs t ≡ false)
+AreKept expiry now connections = AllByRecursion (λ session. is_gone expiry now connections session ≡ false)

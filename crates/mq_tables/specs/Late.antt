@@ -7,17 +7,20 @@ use Rattle.mq_tables.specs.Alarms.{is_late_on, is_named}
 
 -- no connection is late at this time
 abbrev pub AreInTime : Option ℕ → ℕ → List HubConnection → Type 0
-AreInTime within now = AllByRecursion (λ x. is_late_on within now x.since x.stage ≡ false)
+AreInTime within now = AllByRecursion (λ connection. is_late_on within now connection.since connection.stage ≡ false)
 
 -- the index of each late connection is among these
 abbrev pub HasLate : Option ℕ → ℕ → List HubConnection → List ℕ → Type 0
-HasLate within now xs places = (i : ℕ) (x : HubConnection) → slice_get xs i ≡ Some x → is_late_on within now x.since x.stage ≡ true → Contains places i
+HasLate within now connections places = (index : ℕ) (connection : HubConnection) → slice_get connections index ≡ Some connection
+    → is_late_on within now connection.since connection.stage ≡ true → Contains places index
 
 -- the name of each late connection is among these
 abbrev pub HasLateNamed : Option ℕ → ℕ → List HubConnection → List Conn → Type 0
-HasLateNamed within now xs names = (i : ℕ) (x : HubConnection) → slice_get xs i ≡ Some x → is_late_on within now x.since x.stage ≡ true → is_named x.conn names ≡ true
+HasLateNamed within now connections names = (index : ℕ) (connection : HubConnection) → slice_get connections index ≡ Some connection
+    → is_late_on within now connection.since connection.stage ≡ true → is_named connection.conn names ≡ true
 
 -- the index of each late connection is among these, except for those with these names
 abbrev pub HasLateBut : Option ℕ → ℕ → List HubConnection → List Conn → List ℕ → Type 0
-HasLateBut within now xs names places =
-    (i : ℕ) (x : HubConnection) → slice_get xs i ≡ Some x → is_late_on within now x.since x.stage ≡ true → is_named x.conn names ≡ false → Contains places i
+HasLateBut within now connections names places =
+    (index : ℕ) (connection : HubConnection) → slice_get connections index ≡ Some connection
+    → is_late_on within now connection.since connection.stage ≡ true → is_named connection.conn names ≡ false → Contains places index

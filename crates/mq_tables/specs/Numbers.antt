@@ -5,7 +5,7 @@ use Rattle.mq_tables.specs.declared.sessions.session.BrokerSession.{BrokerSessio
 
 -- 0 if it has no session
 abbrev pub stored_at : EndState → ℕ
-stored_at e = if e.end.known then length e.end.book.entries else 0
+stored_at state = if state.end.known then length state.end.book.entries else 0
 
 abbrev pub all_stored : List BrokerSession → ℕ
-all_stored ts = sum_by (λ t. stored_at t.end) ts
+all_stored sessions = sum_by (λ session. stored_at session.end) sessions

@@ -8,17 +8,17 @@ use Rattle.mq_tables.specs.Sessions.{session_at, with_server}
 -- the pending output of the end of the session of a key
 abbrev pub output_of : ℕ → List BrokerSession → List ℕ
 output_of key [] = []
-output_of key (t ∷ ts) = if t.key == key then t.end.output else output_of key ts
+output_of key (session ∷ rest) = if session.key == key then session.end.output else output_of key rest
 
 -- an end after its pending output was taken
 abbrev pub drained : Room → EndState → EndState
-drained room e = record e { output = []; room = room }
+drained room state = record state { output = []; room = room }
 
 -- Taking the pending output of an end: the bytes are returned, or memory runs out and they stay.
 -- Nothing else of the end changes but its room.
 abbrev pub Collects : Result (List ℕ) AllocError → EndState → EndState → Type 0
 Collects (Ok bytes) old new = (bytes ≡ old.output) × (new ≡ drained new.room old)
-Collects (Err e) old new = new ≡ record old { room = new.room }
+Collects (Err fault) old new = new ≡ record old { room = new.room }
 
 -- Taking the pending output of the end of a session.
 pub record CollectsAt (key : ℕ) (answer : Result (List ℕ) AllocError) (old new : List BrokerSession) : Type 0 where

@@ -20,43 +20,43 @@ use Rattle.mq_tables.specs.Sessions.{session_at, with_server}
 -- A message may be sent by a session, given free identifiers and memory. The session is known
 -- (3.1.2.4), its client is connected if the message has quality of service 0 (4.3.1), and the
 -- PUBLISH is within the size limit (2.2.3).
-pub record MayGo (m : Message) (s : EndState) : Type 0 where
-  pub known : s.end.known ≡ true
-  pub up : has_identifier m.qos ≡ false → is_up s.end.state ≡ true
-  pub fits : publish_size m ≤ s.limit.most
+pub record MayGo (message : Message) (state : EndState) : Type 0 where
+  pub known : state.end.known ≡ true
+  pub up : has_identifier message.qos ≡ false → is_up state.end.state ≡ true
+  pub fits : publish_size message ≤ state.limit.most
 
 -- An end has room for messages and for `more` bytes besides, and refuses none of the messages.
-pub record IsReady (ms : List Message) (more : ℕ) (s : EndState) : Type 0 where
-  pub accepted : ready_refusal s.limit.most s.capacity ms s.end ≡ None
-  pub room : HasRoom ms more s
+pub record IsReady (messages : List Message) (more : ℕ) (state : EndState) : Type 0 where
+  pub accepted : ready_refusal state.limit.most state.capacity messages state.end ≡ None
+  pub room : HasRoom messages more state
 
 -- the session of a key exists, and its end has this room
-pub record IsReadyAt (key : ℕ) (ms : List Message) (more : ℕ) (ts : List BrokerSession) : Type 0 where
+pub record IsReadyAt (key : ℕ) (messages : List Message) (more : ℕ) (sessions : List BrokerSession) : Type 0 where
   pub session : BrokerSession
-  pub there : session_at key ts ≡ Some session
-  pub ready : IsReady ms more session.end
+  pub there : session_at key sessions ≡ Some session
+  pub ready : IsReady messages more session.end
 
 -- Making room in an end for messages and for `more` bytes besides: the first failing check is
 -- reported, or a failed allocation, or the end has the room. Nothing else of the end changes, and
 -- earlier room stays.
-pub record Readies (ms : List Message) (more : ℕ) (answer : Result ⊤ PublishRefusal) (old new : EndState) : Type 0 where
-  pub refused : IfSome (ready_refusal old.limit.most old.capacity ms old.end) (λ why. answer ≡ Err why)
-  pub memory : IfNone (ready_refusal old.limit.most old.capacity ms old.end) (IfErr answer (λ why. why ≡ refusals.Memory))
-  pub room : OnOk answer (HasRoom ms more new)
+pub record Readies (messages : List Message) (more : ℕ) (answer : Result ⊤ PublishRefusal) (old new : EndState) : Type 0 where
+  pub refused : IfSome (ready_refusal old.limit.most old.capacity messages old.end) (λ why. answer ≡ Err why)
+  pub memory : IfNone (ready_refusal old.limit.most old.capacity messages old.end) (IfErr answer (λ why. why ≡ refusals.Memory))
+  pub room : OnOk answer (HasRoom messages more new)
   pub same : new ≡ record old { room = new.room }
-  pub before : (others : List Message) (n : ℕ) → HasRoom others n old → HasRoom others n new
+  pub before : (others : List Message) (extra : ℕ) → HasRoom others extra old → HasRoom others extra new
 
 -- Making room in the end of the session of a key.
-pub record ReadiesAt (key : ℕ) (ms : List Message) (more : ℕ) (answer : Result ⊤ PublishRefusal) (old new : List BrokerSession) : Type 0 where
+pub record ReadiesAt (key : ℕ) (messages : List Message) (more : ℕ) (answer : Result ⊤ PublishRefusal) (old new : List BrokerSession) : Type 0 where
   pub session : BrokerSession
   pub there : session_at key old ≡ Some session
   pub end : EndState
-  pub readies : Readies ms more answer session.end end
+  pub readies : Readies messages more answer session.end end
   pub after : new ≡ with_server key end old
 
 -- a session, its room disregarded
 abbrev pub roomless : BrokerSession → BrokerSession
-roomless t = record t { end = record t.end { room = no_room } }
+roomless session = record session { end = record session.end { room = no_room } }
 
 -- the sessions are the same, except for room
 abbrev pub AreSameButRoom : List BrokerSession → List BrokerSession → Type 0
@@ -64,21 +64,21 @@ AreSameButRoom old new = map roomless new ≡ map roomless old
 
 -- each session that had room has it still
 abbrev pub AreStillReady : List BrokerSession → List BrokerSession → Type 0
-AreStillReady old new = (key : ℕ) (ms : List Message) (more : ℕ) → IsReadyAt key ms more old → IsReadyAt key ms more new
+AreStillReady old new = (key : ℕ) (messages : List Message) (more : ℕ) → IsReadyAt key messages more old → IsReadyAt key messages more new
 
 -- ---- placing
 
 -- an end after it published a message, with the next identifier (2.3.1): the packets are queued
 abbrev pub published : Message → EndState → EndState
-published m s = record s {
-  end = (publishes_next m s.end).end;
-  output = s.output ++ encodings (publishes_next m s.end).out;
-  room = room_left m.qos s.room;
+published message state = record state {
+  end = (publishes_next message state.end).end;
+  output = state.output ++ encodings (publishes_next message state.end).out;
+  room = room_left message.qos state.room;
 }
 
 abbrev pub publishing : ℕ → Message → BrokerSession → BrokerSession
-publishing key m t = if t.key == key then record t { end = published m t.end } else t
+publishing key message session = if session.key == key then record session { end = published message session.end } else session
 
 -- the sessions after that of a key published a message
 abbrev pub placed_at : ℕ → Message → List BrokerSession → List BrokerSession
-placed_at key m ts = map (publishing key m) ts
+placed_at key message sessions = map (publishing key message) sessions

@@ -1,4 +1,4 @@
--- The configuration that decides which copies are placed, and what a session has room for.
+-- The configuration that decides which copies are placed, and the room of a session.
 use Rattle.std.specs.Prelude.{◌-◌, ℕ, Option, Some, None, Bool, true, nat_le, length, ◌+◌, List, filter, sum_by, if◌then◌else◌, ◌&&◌, ◌==◌, ◌||◌, not}
 use Rattle.mq_packet.specs.declared.message.Message.{Message}
 use Rattle.mq_flow.specs.Sender.{uses}
@@ -14,52 +14,52 @@ use Rattle.mq_tables.specs.declared.space.Space.{Space}
 abbrev pub rules_of : HubConfig → CopyRules
 rules_of config = record { when_full = config.when_full; most_stored = config.most_stored; most_waiting = config.most_waiting }
 
--- ---- what a session has room for
+-- ---- the room of a session
 
--- what a limit leaves; None: there is no limit
+-- the rest of a limit; None: there is no limit
 abbrev pub left_of : Option ℕ → ℕ → Option ℕ
 left_of None used = None
 left_of (Some most) used = Some (most - used)
 
--- this number fits in what a limit leaves
+-- this number fits in the rest of a limit
 abbrev pub fits_left : Option ℕ → ℕ → Bool
 fits_left None more = true
 fits_left (Some left) more = nat_le more left
 
 -- the number of free identifiers of a session (2.3.1)
 abbrev pub free_of : EndState → ℕ
-free_of s = s.capacity - length (uses s.end.book)
+free_of state = state.capacity - length (uses state.end.book)
 
--- what a session has room for, after this number of bytes is queued
+-- the room of a session, after this number of bytes is queued
 abbrev pub space_of : CopyRules → ℕ → EndState → Space
-space_of rules queued s = record {
-  free = free_of s;
-  stored = left_of rules.most_stored (stored_bytes s.end.book);
-  waiting = left_of rules.most_waiting (queued + length s.output);
+space_of rules queued state = record {
+  free = free_of state;
+  stored = left_of rules.most_stored (stored_bytes state.end.book);
+  waiting = left_of rules.most_waiting (queued + length state.output);
 }
 
 -- the number of identifiers that these messages need (2.3.1)
 abbrev pub count_of : List Message → ℕ
-count_of ms = length (filter (λ m. has_identifier m.qos) ms)
+count_of messages = length (filter (λ m. has_identifier m.qos) messages)
 
 -- the number of bytes of them that a session stores
 abbrev pub bytes_of : List Message → ℕ
-bytes_of ms = sum_by (λ m. if has_identifier m.qos then message_bytes m else 0) ms
+bytes_of messages = sum_by (λ message. if has_identifier message.qos then message_bytes message else 0) messages
 
 -- a session has enough free identifiers for these messages (2.3.1), and may store their bytes
 abbrev pub has_room : Option ℕ → List Message → EndState → Bool
-has_room most_stored ms s = nat_le (count_of ms) (free_of s) && fits_left (left_of most_stored (stored_bytes s.end.book)) (bytes_of ms)
+has_room most_stored messages state = nat_le (count_of messages) (free_of state) && fits_left (left_of most_stored (stored_bytes state.end.book)) (bytes_of messages)
 
 -- a message is missed
 abbrev pub skips : CopyRules → Space → Message → Bool
-skips rules space m =
-    (drops_copies rules.when_full && (has_identifier m.qos && (space.free == 0 || not (fits_left space.stored (message_bytes m)))))
-    || (not (fits_left space.waiting (publish_bytes m)) && not (has_identifier m.qos))
+skips rules space message =
+    (drops_copies rules.when_full && (has_identifier message.qos && (space.free == 0 || not (fits_left space.stored (message_bytes message)))))
+    || (not (fits_left space.waiting (publish_bytes message)) && not (has_identifier message.qos))
 
 -- the space that is left after a message is queued for a connected client
 abbrev pub space_after : Message → Space → Space
-space_after m space = record {
-  free = if has_identifier m.qos then space.free - 1 else space.free;
-  stored = if has_identifier m.qos then left_of space.stored (message_bytes m) else space.stored;
-  waiting = left_of space.waiting (publish_bytes m);
+space_after message space = record {
+  free = if has_identifier message.qos then space.free - 1 else space.free;
+  stored = if has_identifier message.qos then left_of space.stored (message_bytes message) else space.stored;
+  waiting = left_of space.waiting (publish_bytes message);
 }

@@ -7,7 +7,7 @@ use Rattle.mq_packet.specs.declared.packet.Request.{Request}
 -- the rows after a client subscribes, request by request (3.8.4)
 abbrev pub with_rows : ℕ → List Request → List Row → List Row
 with_rows key [] rows = rows
-with_rows key (r ∷ rs) rows = with_rows key rs (with_row key r.filter r.qos rows)
+with_rows key (request ∷ rest) rows = with_rows key rest (with_row key request.filter request.qos rows)
 
 -- ---- rows that are put back
 
@@ -23,7 +23,7 @@ row_back key topic_filter (Some qos) rows = with_row key topic_filter qos rows
 -- the rows with all of these as they were, the last one set back first
 abbrev pub rows_back : ℕ → List Before → List Row → List Row
 rows_back key [] rows = rows
-rows_back key (b ∷ bs) rows = row_back key b.0 b.1 (rows_back key bs rows)
+rows_back key (first ∷ rest) rows = row_back key first.0 first.1 (rows_back key rest rows)
 
 -- a row that existed exists
 abbrev pub IsThere : ℕ → List ℕ → Option Qos → List Row → Type 0
@@ -33,4 +33,4 @@ IsThere key topic_filter (Some qos) rows = is_some (row_qos key topic_filter row
 -- each of these that existed exists when it is set back
 abbrev pub AreThere : ℕ → List Before → List Row → Type 0
 AreThere key [] rows = Unit {0}
-AreThere key (b ∷ bs) rows = IsThere key b.0 b.1 (rows_back key bs rows) × AreThere key bs rows
+AreThere key (first ∷ rest) rows = IsThere key first.0 first.1 (rows_back key rest rows) × AreThere key rest rows

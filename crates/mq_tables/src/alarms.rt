@@ -19,7 +19,7 @@ pub(crate) struct Alarm {
 }
 
 /// Alarms, the earliest first. An alarm stays until it rings, even if its connection has ended or a
-/// later packet has come.
+/// later packet has arrived.
 #[derive(Drop)]
 pub(crate) struct Alarms {
     alarms: BinaryHeap<Reverse<Alarm>>,

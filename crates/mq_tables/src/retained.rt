@@ -19,8 +19,8 @@ type ByName = IndexMap<TopicName, Message>;
 /// A message to retain, after its topic name.
 pub type RetainedEntry = (TopicName, Message);
 
-/// The retained messages, in the order in which their names came. A hash table finds a message by
-/// its name (3.3.1.3).
+/// The retained messages, in the order in which their topic names got a message. A hash table finds
+/// a message by its name (3.3.1.3).
 #[derive(Drop)]
 pub struct Retained {
     by_name: ByName,

@@ -7,7 +7,7 @@ use Rattle.std.specs.declared.cmp.Ordering.{Ordering}
 use Rattle.std.specs.declared.cmp.Ordering.TheVariants.{Equal, Greater, Less}
 use Rattle.std.proofs.lemmas.Bool.{and_parts}
 use Rattle.std.proofs.lemmas.Cmp.{eq_by_cmp_equiv, nat_eq_equiv, tied_itself}
-use Rattle.mq_topic.specs.Found.{Entries, Gathers}
+use Rattle.mq_topic.specs.Inside.Found.{Entries, Gathers}
 use Rattle.mq_topic.specs.Matching.{is_match}
 use Rattle.mq_topic.specs.Qos.{greater}
 use Rattle.mq_topic.specs.Rows.{IsAscending, IsMatched, Key, Row, greater_of, greatest, key_cmp, matching_qos, qos_of, row_qos}

@@ -10,7 +10,7 @@ use Rattle.std.specs.declared.cmp.Ordering.{Ordering}
 use Rattle.std.specs.declared.cmp.Ordering.TheVariants.{Equal, Less}
 use Rattle.std.proofs.lemmas.Bool.{cases_eq}
 use Rattle.std.proofs.lemmas.Cmp.{nat_cmp_total, tied_itself}
-use Rattle.mq_topic.specs.Found.{Among, Covers, Entries, Gathers, IsThere}
+use Rattle.mq_topic.specs.Inside.Found.{Among, Covers, Entries, Gathers, IsThere}
 use Rattle.mq_topic.specs.Qos.{greater}
 use Rattle.mq_topic.specs.Rows.{greater_of, qos_of}
 use Rattle.mq_topic.specs.declared.qos.Qos.{Qos}

@@ -3,7 +3,7 @@ use Rattle.std.proofs.Common.{◌≡◌, inl, inr, ℕ, Bool, true, false, not, 
 use Rattle.std.specs.List.{onto_first}
 use Rattle.std.specs.Str.{bytes_eq}
 use Rattle.std.proofs.lemmas.Bool.{and_parts, not-true}
-use Rattle.mq_topic.specs.Found.{Entries, Finds, Gathers, IsAt}
+use Rattle.mq_topic.specs.Inside.Found.{Entries, Finds, Gathers, IsAt}
 use Rattle.mq_topic.specs.Matching.{begins, fits, fits_level, is_dollar, is_hash_alone, is_hidden, is_match, is_plus_level}
 use Rattle.mq_topic.specs.Topic.{is_slash, is_wildcard, levels}
 use Rattle.mq_topic.specs.Tree.{IsTrieOf, Leads, RowMap, Tree}

@@ -2,7 +2,7 @@
 use Rattle.std.proofs.Common.{◌≡◌, ◌⊎◌, inl, inr, ℕ, true, ◌&&◌, ◌↔◌, List, [], ◌∷◌, Option, Some, None, refl, sym, ap, subst, ◌∙◌}
 use Rattle.std.specs.Str.{bytes_eq}
 use Rattle.std.proofs.lemmas.Bool.{and_parts}
-use Rattle.mq_topic.specs.Found.{Among, Covers, Entries, Finds, Gathers, IsAt, IsThere, Steps}
+use Rattle.mq_topic.specs.Inside.Found.{Among, Covers, Entries, Finds, Gathers, IsAt, IsThere, Steps}
 use Rattle.mq_topic.specs.Matching.{fits, fits_level, is_hash_alone, is_plus_level}
 use Rattle.mq_topic.specs.Rows.{qos_of}
 use Rattle.mq_topic.specs.Tree.{Leads, Tree}

@@ -10,19 +10,19 @@ use Rattle.mq_topic.specs.declared.qos.Qos.{Qos}
 -- The rows of one client.
 abbrev pub own_rows : ℕ → List (List ℕ × Qos) → List Row
 own_rows client [] = []
-own_rows client (e ∷ es) = ((client, e.0), e.1) ∷ own_rows client es
+own_rows client (entry ∷ entries) = ((client, entry.0), entry.1) ∷ own_rows client entries
 
 -- The rows of all clients.
 abbrev pub rows_of : List (ℕ × BTreeMap (List ℕ) Qos) → List Row
 rows_of [] = []
-rows_of (e ∷ es) = own_rows e.0 e.1.entries ++ rows_of es
+rows_of (entry ∷ entries) = own_rows entry.0 entry.1.entries ++ rows_of entries
 
 -- The filters of each client are ordered.
 abbrev pub FiltersAscend : List (ℕ × BTreeMap (List ℕ) Qos) → Type 0
 FiltersAscend [] = Unit {0}
-FiltersAscend (e ∷ es) = IsTrue (is_sorted (slice_cmp nat_cmp) e.1.entries) × FiltersAscend es
+FiltersAscend (entry ∷ entries) = IsTrue (is_sorted (slice_cmp nat_cmp) entry.1.entries) × FiltersAscend entries
 
 -- The clients are ordered, and the filters of each client.
-pub record AreClientRows (es : List (ℕ × BTreeMap (List ℕ) Qos)) : Type 0 where
-  pub clients : IsTrue (is_sorted nat_cmp es)
-  pub filters : FiltersAscend es
+pub record AreClientRows (entries : List (ℕ × BTreeMap (List ℕ) Qos)) : Type 0 where
+  pub clients : IsTrue (is_sorted nat_cmp entries)
+  pub filters : FiltersAscend entries

@@ -9,17 +9,17 @@ use Rattle.mq_topic.specs.declared.fault.TopicFault.TheVariants.{Empty, Nul, Too
 
 -- Both have at least one character, no U+0000, and at most 65,535 bytes.
 abbrev pub text_fault : List ℕ → Option TopicFault
-text_fault t =
-    if length t == 0 then Some Empty else
-    (if has_nul t then Some Nul else (if nat_lt 65535 (length t) then Some TooLong else None))
+text_fault text =
+    if length text == 0 then Some Empty else
+    (if has_nul text then Some Nul else (if nat_lt 65535 (length text) then Some TooLong else None))
 
 -- A name has no wildcard.
 abbrev pub name_fault : List ℕ → Option TopicFault
-name_fault t = option_or (text_fault t) (if list_any is_wildcard t then Some Wildcard else None)
+name_fault text = option_or (text_fault text) (if list_any is_wildcard text then Some Wildcard else None)
 
 -- A filter has wildcards only at valid places.
 abbrev pub filter_fault : List ℕ → Option TopicFault
-filter_fault t = option_or (text_fault t) (levels_fault (levels t))
+filter_fault text = option_or (text_fault text) (levels_fault (levels text))
 
 -- The code of each fault.
 abbrev pub topic_code : TopicFault → List ℕ

@@ -8,8 +8,8 @@ use Rattle.mq_topic.specs.declared.level_map.Child.{Child}
 
 -- The hash of a level.
 unfoldable pub level_number : List ℕ → ℕ
-level_number l = folding.finish (folding.write folding.initial l)
+level_number level = folding.finish (folding.write folding.initial level)
 
 -- Each child is stored under the hash of its level.
 abbrev pub AreNumbered : List (ℕ × Child) → Type 0
-AreNumbered es = (n : ℕ) → option_map_or (λ (c : Child). level_number (arc_str_bytes c.level) == n) (lookup (λ m. n == m) es) true ≡ true
+AreNumbered entries = (number : ℕ) → option_map_or (λ (child : Child). level_number (arc_str_bytes child.level) == number) (lookup (λ other. number == other) entries) true ≡ true

@@ -1,6 +1,6 @@
 pub mod ClientRows
 pub mod Fault
-pub mod Found
+pub mod Inside
 pub mod Laws
 pub mod LevelNumber
 pub mod Match

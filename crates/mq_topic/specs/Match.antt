@@ -15,7 +15,7 @@ pub data Fits : List (List ℕ) → List (List ℕ) → Type 0 where
   SameLevel : (level : List ℕ) (filter name : List (List ℕ)) → Fits filter name → Fits (level ∷ filter) (level ∷ name)
 
 abbrev pub BeginsWith : List ℕ → ℕ → Type 0
-BeginsWith t b = (rest : List ℕ) × (t ≡ b ∷ rest)
+BeginsWith text byte = (rest : List ℕ) × (text ≡ byte ∷ rest)
 
 -- The levels match, and no filter that begins with a wildcard matches a name that begins with `$`
 -- (4.7.2).

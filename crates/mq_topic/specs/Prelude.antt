@@ -12,7 +12,7 @@ pub use Rattle.indexmap.specs.IndexMap.{index_map_len}
 pub use Rattle.slab.specs.Slab.{slab_len}
 pub use Rattle.mq_topic.specs.ClientRows.{own_rows}
 pub use Rattle.mq_topic.specs.Fault.{text_fault, topic_code, filter_fault, name_fault}
-pub use Rattle.mq_topic.specs.Found.{Among, Finds, Gathers, IsAt, IsThere, Steps}
+pub use Rattle.mq_topic.specs.Inside.Found.{Among, Finds, Gathers, IsAt, IsThere, Steps}
 pub use Rattle.mq_topic.specs.Laws.{TopicLaws}
 pub use Rattle.mq_topic.specs.Match.{Match}
 pub use Rattle.mq_topic.specs.Matching.{fits, fits_level, is_hash_alone, is_hidden, is_match, levels_left, begins, is_dollar}

@@ -9,12 +9,12 @@ qos_number Q1 = 1
 qos_number Q2 = 2
 
 abbrev pub qos_from : ℕ → Option Qos
-qos_from n = if n == 0 then Some Q0 else (if n == 1 then Some Q1 else (if n == 2 then Some Q2 else None))
+qos_from number = if number == 0 then Some Q0 else (if number == 1 then Some Q1 else (if number == 2 then Some Q2 else None))
 
 -- The greater of two.
 abbrev pub greater : Qos → Qos → Qos
-greater Q0 q = q
+greater Q0 qos = qos
 greater Q1 Q0 = Q1
 greater Q1 Q1 = Q1
 greater Q1 Q2 = Q2
-greater Q2 q = Q2
+greater Q2 qos = Q2

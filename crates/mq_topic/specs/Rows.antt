@@ -19,7 +19,7 @@ Row = Key × Qos
 
 -- Keys are ordered by client, then by the bytes of the filter.
 abbrev pub key_cmp : Key → Key → Ordering
-key_cmp = then_cmp (on (λ k. k.0) nat_cmp) (on (λ k. k.1) (slice_cmp nat_cmp))
+key_cmp = then_cmp (on (λ key. key.0) nat_cmp) (on (λ key. key.1) (slice_cmp nat_cmp))
 
 abbrev pub is_key : ℕ → List ℕ → Key → Bool
 is_key client filter = eq_by_cmp key_cmp (client, filter)
@@ -38,25 +38,25 @@ with_row client filter qos rows = put key_cmp (client, filter) qos rows
 
 -- The rows without one row, and without the rows of a client.
 abbrev pub without_row : ℕ → List ℕ → List Row → List Row
-without_row client topic_filter rows = filter (λ r. not (is_key client topic_filter r.0)) rows
+without_row client topic_filter rows = filter (λ row. not (is_key client topic_filter row.0)) rows
 
 abbrev pub without_client : ℕ → List Row → List Row
-without_client client rows = filter (λ r. not (r.0.0 == client)) rows
+without_client client rows = filter (λ row. not (row.0.0 == client)) rows
 
 -- ---- The rows that match a name
 
 -- The greater of a QoS and an optional one; the greatest of several.
 abbrev pub greater_of : Qos → Option Qos → Qos
-greater_of q None = q
-greater_of q (Some p) = greater p q
+greater_of qos None = qos
+greater_of qos (Some other) = greater other qos
 
 abbrev pub greatest : List Qos → Option Qos
 greatest [] = None
-greatest (q ∷ qs) = Some (greater_of q (greatest qs))
+greatest (qos ∷ rest) = Some (greater_of qos (greatest rest))
 
 -- The QoS of each row of a client whose filter matches the name.
 abbrev pub matching_qos : ℕ → List ℕ → List Row → List Qos
-matching_qos client name rows = map (λ r. r.1) (filter (λ r. (r.0.0 == client) && is_match r.0.1 name) rows)
+matching_qos client name rows = map (λ row. row.1) (filter (λ row. (row.0.0 == client) && is_match row.0.1 name) rows)
 
 -- The QoS of a client in a list.
 abbrev pub qos_of : ℕ → List (ℕ × Qos) → Option Qos
@@ -72,11 +72,11 @@ pub record IsMatched (name : List ℕ) (rows : List Row) (found : List (ℕ × Q
 -- The only such list, computed row by row.
 abbrev pub matched : List ℕ → List Row → List (ℕ × Qos)
 matched name [] = []
-matched name (r ∷ rows) =
+matched name (row ∷ rows) =
     let found = matched name rows in
-    if is_match r.0.1 name then put nat_cmp r.0.0 (greater_of r.1 (qos_of r.0.0 found)) found else found
+    if is_match row.0.1 name then put nat_cmp row.0.0 (greater_of row.1 (qos_of row.0.0 found)) found else found
 
 -- No entry belongs to a client above this one.
 abbrev pub UpTo : ℕ → List (ℕ × Qos) → Type 0
 UpTo client [] = Unit {0}
-UpTo client (e ∷ found) = (e.0 ≤ client) × UpTo client found
+UpTo client (entry ∷ found) = (entry.0 ≤ client) × UpTo client found

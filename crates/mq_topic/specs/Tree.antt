@@ -17,13 +17,13 @@ pub record Tree : Type 0 where
 
 -- The levels lead from one place to the other.
 abbrev pub Leads : Tree → Option NodeId → List (List ℕ) → Option NodeId → Type 0
-Leads t from [] to = from ≡ to
-Leads t from (l ∷ path) to = (k : NodeId) × (t.child from l ≡ Some k) × Leads t (Some k) path to
+Leads tree from [] to = from ≡ to
+Leads tree from (level ∷ path) to = (node : NodeId) × (tree.child from level ≡ Some node) × Leads tree (Some node) path to
 
 -- The root or an existing node.
 abbrev pub IsPlace : Tree → Option NodeId → Type 0
-IsPlace t None = Unit {0}
-IsPlace t (Some k) = IsSome (t.link k)
+IsPlace tree None = Unit {0}
+IsPlace tree (Some node) = IsSome (tree.link node)
 
 -- The QoS of each client and filter with a row.
 abbrev pub RowMap : Type 0
@@ -34,94 +34,94 @@ abbrev pub IsRowPath : RowMap → List (List ℕ) → Type 0
 IsRowPath row path = (client : ℕ) × (filter : List ℕ) × (qos : Qos) × (row client filter ≡ Some qos) × (levels filter ≡ path)
 
 -- Each child knows its parent and its level.
-pub record IsLinked (t : Tree) : Type 0 where
-  pub child : (at : Option NodeId) (l : List ℕ) (k : NodeId) → t.child at l ≡ Some k → t.link k ≡ Some (at, l)
-  pub place : (at : Option NodeId) (l : List ℕ) (k : NodeId) → t.child at l ≡ Some k → IsPlace t at
+pub record IsLinked (tree : Tree) : Type 0 where
+  pub child : (at : Option NodeId) (level : List ℕ) (node : NodeId) → tree.child at level ≡ Some node → tree.link node ≡ Some (at, level)
+  pub place : (at : Option NodeId) (level : List ℕ) (node : NodeId) → tree.child at level ≡ Some node → IsPlace tree at
 
 -- Each node lies on one of these paths.
 abbrev pub IsNeeded : Tree → (List (List ℕ) → Type 0) → Type 0
-IsNeeded t Path = (k : NodeId) → IsSome (t.link k)
-    → (path rest : List (List ℕ)) × Leads t None path (Some k) × Path (path ++ rest)
+IsNeeded tree Path = (node : NodeId) → IsSome (tree.link node)
+    → (path rest : List (List ℕ)) × Leads tree None path (Some node) × Path (path ++ rest)
 
 -- The client of a row is stored at the node to which the levels of its filter lead, with its QoS.
-pub record StandsFor (rows : RowMap) (t : Tree) : Type 0 where
-  pub row : (c : ℕ) (f : List ℕ) (q : Qos) → rows c f ≡ Some q → (k : NodeId) × Leads t None (levels f) (Some k) × (t.client k c ≡ Some q)
-  pub client : (k : NodeId) (c : ℕ) (q : Qos) → t.client k c ≡ Some q → (f : List ℕ) × Leads t None (levels f) (Some k) × (rows c f ≡ Some q)
+pub record StandsFor (rows : RowMap) (tree : Tree) : Type 0 where
+  pub row : (client : ℕ) (filter : List ℕ) (qos : Qos) → rows client filter ≡ Some qos → (node : NodeId) × Leads tree None (levels filter) (Some node) × (tree.client node client ≡ Some qos)
+  pub client : (node : NodeId) (client : ℕ) (qos : Qos) → tree.client node client ≡ Some qos → (filter : List ℕ) × Leads tree None (levels filter) (Some node) × (rows client filter ≡ Some qos)
 
 -- The trie represents these rows, and has no node that no row needs.
-pub record IsTrieOf (row : RowMap) (t : Tree) : Type 0 where
-  pub linked : IsLinked t
-  pub stands : StandsFor row t
-  pub needed : IsNeeded t (IsRowPath row)
+pub record IsTrieOf (row : RowMap) (tree : Tree) : Type 0 where
+  pub linked : IsLinked tree
+  pub stands : StandsFor row tree
+  pub needed : IsNeeded tree (IsRowPath row)
 
 -- The same, except that nodes on the way to one place may be unneeded.
-pub record IsTrieUpTo (at : Option NodeId) (row : RowMap) (t : Tree) : Type 0 where
-  pub linked : IsLinked t
-  pub stands : StandsFor row t
-  pub leads : (path : List (List ℕ)) × Leads t None path at
-  pub needed : IsNeeded t (λ path. Leads t None path at ⊎ IsRowPath row path)
+pub record IsTrieUpTo (at : Option NodeId) (row : RowMap) (tree : Tree) : Type 0 where
+  pub linked : IsLinked tree
+  pub stands : StandsFor row tree
+  pub leads : (path : List (List ℕ)) × Leads tree None path at
+  pub needed : IsNeeded tree (λ path. Leads tree None path at ⊎ IsRowPath row path)
 
 -- The rows with one row set.
 abbrev pub row_with : ℕ → List ℕ → Qos → RowMap → RowMap
-row_with c f q row d g = if is_key d g (c, f) then Some q else row d g
+row_with client filter qos row other other_filter = if is_key other other_filter (client, filter) then Some qos else row other other_filter
 
 -- The rows without one row.
 abbrev pub without : ℕ → List ℕ → RowMap → RowMap
-without c f row d g = if is_key d g (c, f) then None else row d g
+without client filter row other other_filter = if is_key other other_filter (client, filter) then None else row other other_filter
 
 -- The rows without those of a client.
 abbrev pub without_all : ℕ → RowMap → RowMap
-without_all c row d g = if d == c then None else row d g
+without_all client row other other_filter = if other == client then None else row other other_filter
 
 -- ---- how a trie changes
 
 -- Both have the same queries.
 pub record SameTree (old new : Tree) : Type 0 where
-  pub link : (k : NodeId) → new.link k ≡ old.link k
-  pub child : (at : Option NodeId) (l : List ℕ) → new.child at l ≡ old.child at l
-  pub client : (k : NodeId) (c : ℕ) → new.client k c ≡ old.client k c
+  pub link : (node : NodeId) → new.link node ≡ old.link node
+  pub child : (at : Option NodeId) (level : List ℕ) → new.child at level ≡ old.child at level
+  pub client : (node : NodeId) (client : ℕ) → new.client node client ≡ old.client node client
 
 -- At one place and level the child is this one; nothing else changes.
 pub record ChildIs (at : Option NodeId) (level : List ℕ) (child : Option NodeId) (old new : Tree) : Type 0 where
-  pub link : (k : NodeId) → new.link k ≡ old.link k
+  pub link : (node : NodeId) → new.link node ≡ old.link node
   pub same : new.child at level ≡ child
-  pub others : (a : Option NodeId) (l : List ℕ) → ((a ≡ at) × (l ≡ level) → ⊥) → new.child a l ≡ old.child a l
-  pub client : (k : NodeId) (c : ℕ) → new.client k c ≡ old.client k c
+  pub others : (other_place : Option NodeId) (other_level : List ℕ) → ((other_place ≡ at) × (other_level ≡ level) → ⊥) → new.child other_place other_level ≡ old.child other_place other_level
+  pub client : (node : NodeId) (client : ℕ) → new.client node client ≡ old.client node client
 
 -- A node was added.
-pub record Grown (at : Option NodeId) (level : List ℕ) (k : NodeId) (old new : Tree) : Type 0 where
-  pub fresh : old.link k ≡ None
-  pub link : new.link k ≡ Some (at, level)
-  pub links : (j : NodeId) → (j ≡ k → ⊥) → new.link j ≡ old.link j
-  pub same : new.child at level ≡ Some k
-  pub others : (a : Option NodeId) (l : List ℕ) → ((a ≡ at) × (l ≡ level) → ⊥) → new.child a l ≡ old.child a l
-  pub client : (j : NodeId) (c : ℕ) → new.client j c ≡ old.client j c
+pub record Grown (at : Option NodeId) (level : List ℕ) (node : NodeId) (old new : Tree) : Type 0 where
+  pub fresh : old.link node ≡ None
+  pub link : new.link node ≡ Some (at, level)
+  pub links : (other : NodeId) → (other ≡ node → ⊥) → new.link other ≡ old.link other
+  pub same : new.child at level ≡ Some node
+  pub others : (other_place : Option NodeId) (other_level : List ℕ) → ((other_place ≡ at) × (other_level ≡ level) → ⊥) → new.child other_place other_level ≡ old.child other_place other_level
+  pub client : (other : NodeId) (client : ℕ) → new.client other client ≡ old.client other client
 
 -- A node has no child and no client.
-pub record IsBare (t : Tree) (k : NodeId) : Type 0 where
-  pub child : (l : List ℕ) → t.child (Some k) l ≡ None
-  pub client : (c : ℕ) → t.client k c ≡ None
+pub record IsBare (tree : Tree) (node : NodeId) : Type 0 where
+  pub child : (level : List ℕ) → tree.child (Some node) level ≡ None
+  pub client : (client : ℕ) → tree.client node client ≡ None
 
 -- A node has a child or a client.
 abbrev pub IsUsed : Tree → NodeId → Type 0
-IsUsed t k = ((l : List ℕ) × IsSome (t.child (Some k) l)) ⊎ ((c : ℕ) × IsSome (t.client k c))
+IsUsed tree node = ((level : List ℕ) × IsSome (tree.child (Some node) level)) ⊎ ((client : ℕ) × IsSome (tree.client node client))
 
 -- A node was removed.
-pub record Cut (at : Option NodeId) (level : List ℕ) (k : NodeId) (old new : Tree) : Type 0 where
-  pub link : new.link k ≡ None
-  pub links : (j : NodeId) → (j ≡ k → ⊥) → new.link j ≡ old.link j
+pub record Cut (at : Option NodeId) (level : List ℕ) (node : NodeId) (old new : Tree) : Type 0 where
+  pub link : new.link node ≡ None
+  pub links : (other : NodeId) → (other ≡ node → ⊥) → new.link other ≡ old.link other
   pub same : new.child at level ≡ None
-  pub others : (a : Option NodeId) (l : List ℕ) → ((a ≡ at) × (l ≡ level) → ⊥) → new.child a l ≡ old.child a l
-  pub client : (j : NodeId) (c : ℕ) → new.client j c ≡ old.client j c
+  pub others : (other_place : Option NodeId) (other_level : List ℕ) → ((other_place ≡ at) × (other_level ≡ level) → ⊥) → new.child other_place other_level ≡ old.child other_place other_level
+  pub client : (other : NodeId) (client : ℕ) → new.client other client ≡ old.client other client
 
 -- The QoS of a client at a node changes; nothing else does.
-pub record ClientIs (k : NodeId) (c : ℕ) (qos : Option Qos) (old new : Tree) : Type 0 where
-  pub link : (j : NodeId) → new.link j ≡ old.link j
-  pub child : (at : Option NodeId) (l : List ℕ) → new.child at l ≡ old.child at l
-  pub client : new.client k c ≡ qos
-  pub others : (j : NodeId) (d : ℕ) → ((j ≡ k) × (d ≡ c) → ⊥) → new.client j d ≡ old.client j d
+pub record ClientIs (node : NodeId) (key : ℕ) (qos : Option Qos) (old new : Tree) : Type 0 where
+  pub link : (other : NodeId) → new.link other ≡ old.link other
+  pub child : (at : Option NodeId) (level : List ℕ) → new.child at level ≡ old.child at level
+  pub client : new.client node key ≡ qos
+  pub others : (other : NodeId) (other_key : ℕ) → ((other ≡ node) × (other_key ≡ key) → ⊥) → new.client other other_key ≡ old.client other other_key
 
 -- The QoS of a client at a place; the root has none.
 abbrev pub client_from : Tree → Option NodeId → ℕ → Option Qos
-client_from t None c = None
-client_from t (Some k) c = t.client k c
+client_from tree None client = None
+client_from tree (Some node) client = tree.client node client

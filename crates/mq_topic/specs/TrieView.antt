@@ -11,23 +11,23 @@ use Rattle.mq_topic.specs.declared.trie_nodes.NodeId.{NodeId}
 use Rattle.mq_topic.specs.declared.trie_nodes.Trie.{Trie}
 
 abbrev pub node_of : Trie → NodeId → Option Node
-node_of t k = get t.nodes k.0
+node_of trie id = get trie.nodes id.0
 
 abbrev pub child_at : List ℕ → Node → Option NodeId
-child_at l n = child_in l n.children
+child_at level node = child_in level node.children
 
 abbrev pub child_of : Trie → Option NodeId → List ℕ → Option NodeId
-child_of t None l = child_in l t.top
-child_of t (Some k) l = option_map_or (child_at l) (node_of t k) None
+child_of trie None level = child_in level trie.top
+child_of trie (Some id) level = option_map_or (child_at level) (node_of trie id) None
 
 abbrev pub link_in : Node → Option NodeId × List ℕ
-link_in n = (n.parent, arc_str_bytes n.level)
+link_in node = (node.parent, arc_str_bytes node.level)
 
 abbrev pub client_at : ℕ → Node → Option Qos
-client_at c n = client_in c n.clients
+client_at client node = client_in client node.clients
 
 abbrev pub client_of : Trie → NodeId → ℕ → Option Qos
-client_of t k c = option_map_or (client_at c) (node_of t k) None
+client_of trie id client = option_map_or (client_at client) (node_of trie id) None
 
 abbrev pub tree : Trie → Tree
-tree t = record { link = λ k. option_map link_in (node_of t k); child = child_of t; client = client_of t }
+tree trie = record { link = λ id. option_map link_in (node_of trie id); child = child_of trie; client = client_of trie }

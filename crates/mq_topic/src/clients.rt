@@ -20,8 +20,7 @@ pub(crate) enum Clients {
 }
 
 impl Clients {
-    /// Sets the QoS of a client. Never fails if the client is stored already. On `Err` the clients
-    /// are unchanged.
+    /// Sets the QoS of a client. Never fails if the client is stored already.
     pub(crate) fn set(
         &mut self,
         alloc: Global,

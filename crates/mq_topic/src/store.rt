@@ -19,8 +19,7 @@ pub trait FilterStore {
     // The rows in ascending order.
     ghost rows: { Self → List Row };
 
-    /// Sets the QoS of a client and a filter. Never fails if the row exists already. On `Err` the
-    /// rows are unchanged.
+    /// Sets the QoS of a client and a filter. Never fails if the row exists already.
     fn set(&mut self, client: ClientKey, filter: TopicFilter, qos: Qos) -> Result<(), AllocError>
         ensures value { OnOk result (rows self.new ≡ with_row client filter qos (rows self.old)) }
         ensures unchanged { OnErr result (rows self.new ≡ rows self.old) }

@@ -110,7 +110,7 @@ impl Trie {
         }
     }
 
-    /// Creates a child at a level that has none. On `Err` the trie is unchanged.
+    /// Creates a child at a level that has none.
     pub(crate) fn grow(&mut self, at: Option<NodeId>, level: &str) -> Result<NodeId, AllocError>
         requires { IsPlace (tree self.old) at }
         ensures grown { IfOk result (λ k. Grown at level.now k (tree self.old) (tree self.new)) }

@@ -7,7 +7,7 @@ use Rattle.mq_wire.specs.declared.length_reading.LengthReading.TheVariants.{Whol
 use Rattle.mq_wire.specs.Length.{Length, LooseLength, LengthUnder, length_bytes}
 use Rattle.mq_wire.specs.Bytes.{AreBytes}
 use Rattle.mq_wire.specs.Steps.{Continue}
-use Rattle.mq_wire.specs.Value.{value_of}
+use Rattle.mq_wire.specs.Inside.Value.{value_of}
 use Rattle.mq_wire.specs.Reading.{read_length, IsTooLong, IsOverlong, LengthLaws}
 
 pub size_one : (n : ℕ) (b : List ℕ) → n < 128 → Length n b → length b ≡ 1

@@ -1,4 +1,5 @@
 pub mod Bytes
+pub mod Inside
 pub mod Length
 pub mod Number
 pub mod Prelude
@@ -6,4 +7,3 @@ pub mod Reading
 pub mod Steps
 pub mod Text
 pub mod TextReading
-pub mod Value

@@ -10,4 +10,4 @@ pub use Rattle.mq_wire.specs.Reading.{IsSmall, LengthLaws, last_byte, read_lengt
 pub use Rattle.mq_wire.specs.Steps.{Continue, IsStep}
 pub use Rattle.mq_wire.specs.Text.{IsText, has_nul, is_special}
 pub use Rattle.mq_wire.specs.TextReading.{TextLaws, checked_text, read_text}
-pub use Rattle.mq_wire.specs.Value.{value_of}
+pub use Rattle.mq_wire.specs.Inside.Value.{value_of}

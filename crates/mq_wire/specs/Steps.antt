@@ -8,7 +8,7 @@ use Rattle.mq_wire.specs.Length.{LengthUnder}
 -- Each of the bytes announces another.
 abbrev pub Continue : List ℕ → Type 0
 Continue [] = Unit {0}
-Continue (b ∷ bs) = (128 ≤ b) × (b < 256) × Continue bs
+Continue (byte ∷ rest) = (128 ≤ byte) × (byte < 256) × Continue rest
 
 -- The state of a reader: the bytes that it received, and whether it is lenient.
 pub record Coming : Type 0 where
@@ -19,6 +19,6 @@ pub record Coming : Type 0 where
 -- it is complete, a fourth byte announces a fifth, or a last byte is 0 and not the only one.
 abbrev pub IsStep : Bool → List ℕ → ℕ → VarStep → Type 0
 IsStep lenient before byte More = Continue (before ++ byte ∷ []) × (length before < 3)
-IsStep lenient before byte (Done n) = LengthUnder lenient n (before ++ byte ∷ [])
+IsStep lenient before byte (Done number) = LengthUnder lenient number (before ++ byte ∷ [])
 IsStep lenient before byte (Bad TooLong) = Continue (before ++ byte ∷ []) × (length before ≡ 3)
 IsStep lenient before byte (Bad Overlong) = (lenient ≡ false) × (byte ≡ 0) × (0 < length before)

@@ -4,24 +4,24 @@ use Rattle.std.specs.List.{list_any}
 use Rattle.std.specs.Str.{is_utf8}
 use Rattle.mq_wire.specs.Number.{number}
 
--- `t` contains U+0000, the only character whose UTF-8 encoding has a byte 0.
+-- `text` contains U+0000, the only character whose UTF-8 encoding has a byte 0.
 abbrev pub has_nul : List ℕ → Bool
-has_nul t = list_any (λ b. b == 0) t
+has_nul text = list_any (λ byte. byte == 0) text
 
--- `b` is U+0000 or part of a character beyond ASCII.
+-- `byte` is U+0000 or part of a character beyond ASCII.
 abbrev pub is_special : ℕ → Bool
-is_special b = (b == 0) || nat_lt 127 b
+is_special byte = (byte == 0) || nat_lt 127 byte
 
--- `t` is UTF-8 without surrogates, has at most 65,535 bytes and no U+0000.
-pub record IsText (t : List ℕ) : Type 0 where
-  pub utf8 : is_utf8 t ≡ true
-  pub no_nul : has_nul t ≡ false
-  pub short : length t < 65536
+-- `text` is UTF-8 without surrogates, has at most 65,535 bytes and no U+0000.
+pub record IsText (text : List ℕ) : Type 0 where
+  pub utf8 : is_utf8 text ≡ true
+  pub no_nul : has_nul text ≡ false
+  pub short : length text < 65536
 
 -- The number of bytes in two bytes, followed by the bytes.
 abbrev pub counted : List ℕ → List ℕ
-counted t = number (length t) ++ t
+counted text = number (length text) ++ text
 
--- `b` is the encoding of the text `t` in a packet.
+-- `bytes` is the encoding of `text` in a packet.
 abbrev pub Text : List ℕ → List ℕ → Type 0
-Text t b = IsText t × (b ≡ counted t)
+Text text bytes = IsText text × (bytes ≡ counted text)

@@ -16,10 +16,10 @@ text_bytes bytes at = take (number_in bytes at) (drop (at + 2) bytes)
 
 -- The bytes as a text, or the first fault: not UTF-8, or U+0000.
 unfoldable pub checked_text : List ℕ → Result (List ℕ) FieldFault
-checked_text t = if is_utf8 t then (if has_nul t then Err Nul else Ok t) else Err NotUtf8
+checked_text text = if is_utf8 text then (if has_nul text then Err Nul else Ok text) else Err NotUtf8
 
 abbrev pub with_place : ℕ → Result (List ℕ) FieldFault → Result (List ℕ × ℕ) FieldFault
-with_place place (Ok t) = Ok (t, place)
+with_place place (Ok text) = Ok (text, place)
 with_place place (Err fault) = Err fault
 
 -- The text whose length is at index `at`, with the index after it; or the first fault: it extends
@@ -32,7 +32,7 @@ read_text bytes at =
 -- The laws of texts.
 pub record TextLaws : Type 0 where
   -- An encoded text is read back, whatever surrounds it.
-  pub again : (front t rest : List ℕ) → IsText t → read_text (front ++ (counted t ++ rest)) (length front) ≡ Ok (t, length front + 2 + length t)
-  -- What is read as a text is an encoded text.
-  pub found : (bytes : List ℕ) (at : ℕ) (t : List ℕ) (end : ℕ) → AreBytes bytes → read_text bytes at ≡ Ok (t, end)
-      → IsText t × (end ≡ at + 2 + length t) × (end ≤ length bytes) × (drop at bytes ≡ counted t ++ drop end bytes)
+  pub again : (front text rest : List ℕ) → IsText text → read_text (front ++ (counted text ++ rest)) (length front) ≡ Ok (text, length front + 2 + length text)
+  -- Only encoded texts are read as texts.
+  pub found : (bytes : List ℕ) (at : ℕ) (text : List ℕ) (end : ℕ) → AreBytes bytes → read_text bytes at ≡ Ok (text, end)
+      → IsText text × (end ≡ at + 2 + length text) × (end ≤ length bytes) × (drop at bytes ≡ counted text ++ drop end bytes)

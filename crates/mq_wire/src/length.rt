@@ -124,7 +124,7 @@ fn number_of(before: &[u8], last: u8) -> u32
 /// over 268,435,455, the largest remaining length.
 pub fn varlen_len(n: u32) -> Option<usize>
     ensures fits { IsSome result ↔ (n < 2 ^ 28) }
-    ensures size { IfSome result (λ k. (b : List ℕ) → Length n b → length b ≡ k) }
+    ensures size { IfSome result (λ k. (bytes : List ℕ) → Length n bytes → length bytes ≡ k) }
     ensures most { IfSome result (λ k. k ≤ 4) }
 {
     match n {

@@ -73,7 +73,7 @@ pub fn loose_length_at(bytes: &[u8]) -> LengthReading
 }
 
 /// The laws of remaining lengths: each number up to 268,435,455 has exactly one encoding, encodings
-/// are read back, and what is read is an encoding.
+/// are read back, and only encodings are read.
 pub fn length_laws()
     ensures { LengthLaws }
 {}

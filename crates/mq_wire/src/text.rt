@@ -202,7 +202,7 @@ pub fn text_at(bytes: &[u8], at: usize) -> Result<(TextRef<'_>, usize), FieldFau
     }
 }
 
-/// The laws of texts: each encoded text is read back, and what is read is a text.
+/// The laws of texts: each encoded text is read back, and only texts are read.
 pub fn text_laws()
     ensures { TextLaws }
 {}

@@ -11,11 +11,13 @@ use Rattle.mq_world.specs.Settling.{arrivals}
 -- If the queue toward a side begins with some packets, their arrivals one after another have the
 -- same effect as processing them at once, also if the end closes at one of them.
 pub record AtOnceLaw : Type 0 where
-  pub client : (ps rest : List Packet) (w : Machine) → w.client.coming ≡ kept w.client.end.state (ps ++ rest) → arrivals (length ps) Client w ≡ record {
-    client = (took w.client rest (client_gets_all ps w.client.end)).half;
-    server = put (took w.client rest (client_gets_all ps w.client.end)).out w.server;
-  }
-  pub server : (ps rest : List Packet) (w : Machine) → w.server.coming ≡ kept w.server.end.state (ps ++ rest) → arrivals (length ps) Server w ≡ record {
-    client = put (took w.server rest (server_gets_all ps w.server.end)).out w.client;
-    server = (took w.server rest (server_gets_all ps w.server.end)).half;
-  }
+  pub client : (packets rest : List Packet) (machine : Machine) → machine.client.coming ≡ kept machine.client.end.state (packets ++ rest)
+      → arrivals (length packets) Client machine ≡ record {
+        client = (took machine.client rest (client_gets_all packets machine.client.end)).half;
+        server = put (took machine.client rest (client_gets_all packets machine.client.end)).out machine.server;
+      }
+  pub server : (packets rest : List Packet) (machine : Machine) → machine.server.coming ≡ kept machine.server.end.state (packets ++ rest)
+      → arrivals (length packets) Server machine ≡ record {
+        client = put (took machine.server rest (server_gets_all packets machine.server.end)).out machine.client;
+        server = (took machine.server rest (server_gets_all packets machine.server.end)).half;
+      }

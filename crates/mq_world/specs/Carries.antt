@@ -32,58 +32,58 @@ pub record Wired : Type 0 where
 -- A side of the world carries a side of the machine: ends and lists are the same, no output is
 -- pending, no room is reserved, and if there is a connection, the held bytes followed by those in
 -- flight encode the packets of the queue.
-pub record CarriesSide (limit : Bounds) (capacity : ℕ) (x : WiredSide) (h : Half) : Type 0 where
-  pub end : x.state.end ≡ h.end
-  pub bytes : is_live h.end.state ≡ true → Stream limit h.coming (x.state.held ++ x.wire)
-  pub output : x.state.output ≡ []
-  pub reserved : x.state.room.bytes ≡ 0
-  pub limits : x.state.limit ≡ limit
-  pub room : x.state.capacity ≡ capacity
-  pub accepted : x.accepted ≡ h.accepted
-  pub handed : x.handed ≡ h.handed
-  pub freed : x.freed ≡ h.freed
+pub record CarriesSide (limit : Bounds) (capacity : ℕ) (wired : WiredSide) (half : Half) : Type 0 where
+  pub end : wired.state.end ≡ half.end
+  pub bytes : is_live half.end.state ≡ true → Stream limit half.coming (wired.state.held ++ wired.wire)
+  pub output : wired.state.output ≡ []
+  pub reserved : wired.state.room.bytes ≡ 0
+  pub limits : wired.state.limit ≡ limit
+  pub room : wired.state.capacity ≡ capacity
+  pub accepted : wired.accepted ≡ half.accepted
+  pub handed : wired.handed ≡ half.handed
+  pub freed : wired.freed ≡ half.freed
 
-pub record Carries (limit : Bounds) (capacity : ℕ) (w : Wired) (m : Machine) : Type 0 where
-  pub client : CarriesSide limit capacity w.client m.client
-  pub server : CarriesSide limit capacity w.server m.server
+pub record Carries (limit : Bounds) (capacity : ℕ) (world : Wired) (machine : Machine) : Type 0 where
+  pub client : CarriesSide limit capacity world.client machine.client
+  pub server : CarriesSide limit capacity world.server machine.server
 
 -- the machine is one that a run reaches
 abbrev pub Reached : ℕ → ℕ → Machine → Type 0
-Reached limit capacity m = (window : Option ℕ) × (moves : List Move) × Run limit capacity (blank_machine window) moves m
+Reached limit capacity machine = (window : Option ℕ) × (moves : List Move) × Run limit capacity (blank_machine window) moves machine
 
 -- the capacity is at most the window of each side that has one
 abbrev pub IsSpanned : ℕ → Wired → Type 0
-IsSpanned capacity w = Spans w.client.state.end.window capacity × Spans w.server.state.end.window capacity
+IsSpanned capacity world = Spans world.client.state.end.window capacity × Spans world.server.state.end.window capacity
 
 -- Both sides have this receive window.
 abbrev pub HaveWindow : Option ℕ → Wired → Type 0
-HaveWindow window w = (w.client.state.end.window ≡ window) × (w.server.state.end.window ≡ window)
+HaveWindow window world = (world.client.state.end.window ≡ window) × (world.server.state.end.window ≡ window)
 
 -- the remaining length of the PUBLISH of a message is within the limit (2.2.3, 3.3)
 abbrev pub fits : ℕ → Message → Bool
-fits limit m = nat_le (publish_size m) limit
+fits limit message = nat_le (publish_size message) limit
 
 -- the side as one of a machine
 abbrev pub seen_side : WiredSide → Half
-seen_side x = record { end = x.state.end; coming = []; accepted = x.accepted; handed = x.handed; freed = x.freed }
+seen_side wired = record { end = wired.state.end; coming = []; accepted = wired.accepted; handed = wired.handed; freed = wired.freed }
 
 -- the world as a machine
 abbrev pub seen : Wired → Machine
-seen w = record { client = seen_side w.client; server = seen_side w.server }
+seen world = record { client = seen_side world.client; server = seen_side world.server }
 
 -- ---- bytes that come
 
 -- The packets that arrive with bytes: all complete ones if the end doesn't close, otherwise those
 -- up to the one at which it closes (4.6).
-pub record Comes (limit : Bounds) (b : List ℕ) (closed : Option CloseReason) (ps : List Packet) : Type 0 where
+pub record Comes (limit : Bounds) (bytes : List ℕ) (closed : Option CloseReason) (packets : List Packet) : Type 0 where
   pub front : List ℕ
   pub rest : List ℕ
-  pub stream : Stream limit ps front
-  pub parts : b ≡ front ++ rest
+  pub stream : Stream limit packets front
+  pub parts : bytes ≡ front ++ rest
   pub all : closed ≡ None → Pending limit rest
 
 -- These moves are one arrival for each packet. If an allocation failed, the connection is lost
 -- after them.
 abbrev pub AreArrivals : Side → ℕ → Option CloseReason → List Move → Type 0
-AreArrivals side n closed moves = (moves ≡ replicate n (By side Arrives))
-    ⊎ ((closed ≡ Some reasons.Memory) × (moves ≡ replicate n (By side Arrives) ++ By side Drops ∷ []))
+AreArrivals side count closed moves = (moves ≡ replicate count (By side Arrives))
+    ⊎ ((closed ≡ Some reasons.Memory) × (moves ≡ replicate count (By side Arrives) ++ By side Drops ∷ []))

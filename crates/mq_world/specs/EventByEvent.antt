@@ -25,7 +25,7 @@ pub record Lists : Type 0 where
 
 -- those of a side of the machine
 abbrev pub lists_of : Half → Lists
-lists_of h = record { accepted = h.accepted; handed = h.handed; freed = h.freed }
+lists_of half = record { accepted = half.accepted; handed = half.handed; freed = half.freed }
 
 abbrev pub is_same : Side → Side → Bool
 is_same Client Client = true
@@ -40,33 +40,34 @@ identifier_in (Some id) = id
 
 -- the lists with a message more that is accepted
 abbrev pub with_accepted : Message → Option ℕ → Lists → Lists
-with_accepted m id l = record l { accepted = accepted_with m.qos (identifier_in id) m l.accepted }
+with_accepted message id lists = record lists { accepted = accepted_with message.qos (identifier_in id) message lists.accepted }
 
 -- The lists after bytes arrived: reported messages are delivered, and acknowledged ones are freed.
 abbrev pub with_progress : Progress → Lists → Lists
-with_progress p l = record l { handed = handed_with p.happenings l.handed; freed = freed_with l.accepted.at_least_once p.acknowledged l.freed }
+with_progress progress lists =
+    record lists { handed = handed_with progress.happenings lists.handed; freed = freed_with lists.accepted.at_least_once progress.acknowledged lists.freed }
 
 -- The lists of a side after an event, by its answer: a message that the side accepted, or the
 -- effect of bytes that arrived at it. Nothing else changes a list.
 abbrev pub told_by : Side → Event → Answer → Lists → Lists
-told_by side (events.Publish at m) (answers.Published from (Ok id)) l = if is_same side at then with_accepted m id l else l
-told_by side (events.Deliver at count) (answers.Delivered d) l = if is_same side at then with_progress d.progress l else l
-told_by side event answer l = l
+told_by side (events.Publish at message) (answers.Published from (Ok id)) lists = if is_same side at then with_accepted message id lists else lists
+told_by side (events.Deliver at count) (answers.Delivered delivery) lists = if is_same side at then with_progress delivery.progress lists else lists
+told_by side event answer lists = lists
 
 -- and after events, one after another
 abbrev pub told_by_all : Side → List Event → List Answer → Lists → Lists
-told_by_all side (e ∷ es) (a ∷ rest) l = told_by_all side es rest (told_by side e a l)
-told_by_all side es rest l = l
+told_by_all side (event ∷ later) (answer ∷ rest) lists = told_by_all side later rest (told_by side event answer lists)
+told_by_all side later rest lists = lists
 
 -- These moves lead to a machine that the world carries, and its lists are the previous ones,
 -- followed by those that the answers report.
-pub record Tells (limit : Bounds) (capacity : ℕ) (m : Machine) (events : List Event) (answers : List Answer) (w : Wired) : Type 0 where
+pub record Tells (limit : Bounds) (capacity : ℕ) (machine : Machine) (events : List Event) (answers : List Answer) (world : Wired) : Type 0 where
   pub moves : List Move
-  pub follows : Follows limit capacity m moves w
-  pub client : lists_of follows.machine.client ≡ told_by_all Client events answers (lists_of m.client)
-  pub server : lists_of follows.machine.server ≡ told_by_all Server events answers (lists_of m.server)
+  pub follows : Follows limit capacity machine moves world
+  pub client : lists_of follows.machine.client ≡ told_by_all Client events answers (lists_of machine.client)
+  pub server : lists_of follows.machine.server ≡ told_by_all Server events answers (lists_of machine.server)
 
 -- For every machine that a world carries, over every list of events with their answers.
 abbrev pub EventByEvent : Type 0
-EventByEvent = (limit : Bounds) (capacity : ℕ) (events : List Event) (answers : List Answer) (old new : Wired) (m : Machine)
-    → Stands limit capacity old m → Leads limit capacity events answers old new → Tells limit capacity m events answers new
+EventByEvent = (limit : Bounds) (capacity : ℕ) (events : List Event) (answers : List Answer) (old new : Wired) (machine : Machine)
+    → Stands limit capacity old machine → Leads limit capacity events answers old new → Tells limit capacity machine events answers new

@@ -11,8 +11,8 @@ use Rattle.mq_world.specs.Settling.{settled}
 
 -- the machine after moves
 abbrev pub after_all : Machine → List Move → Machine
-after_all w [] = w
-after_all w (move ∷ moves) = after_all (after w move) moves
+after_all machine [] = machine
+after_all machine (move ∷ moves) = after_all (after machine move) moves
 
 -- a connection is opened, CONNECT arrives, CONNACK arrives (3.1, 3.2), and these moves follow
 abbrev pub handshake : List Move → List Move

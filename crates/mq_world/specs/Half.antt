@@ -58,9 +58,9 @@ blank_half window = record { end = blank_end window; coming = []; accepted = non
 
 -- The packets that join the queue toward a side; packets toward a closed one are lost (4.2).
 abbrev pub joined : {A : Type 0} → State → List A → List A → List A
-joined Disconnected queue ps = queue
-joined Connecting queue ps = queue ++ ps
-joined Connected queue ps = queue ++ ps
+joined Disconnected queue more = queue
+joined Connecting queue more = queue ++ more
+joined Connected queue more = queue ++ more
 
 -- an end that closes leaves nothing in the queue toward it (4.2)
 abbrev pub kept : State → List Packet → List Packet
@@ -70,36 +70,36 @@ kept Connected queue = queue
 
 -- packets are put into the queue toward a side
 abbrev pub put : List Packet → Half → Half
-put ps h = record h { coming = joined h.end.state h.coming ps }
+put more half = record half { coming = joined half.end.state half.coming more }
 
 -- ---- the lists of the run
 
 -- The messages of one QoS (4.3), behind the reported ones.
 abbrev pub told : Qos → List Happening → List Message → List Message
-told q [] ms = ms
-told q (happens.Handed m ∷ hs) ms = told q hs (if same_qos q m.qos then ms ++ m ∷ [] else ms)
-told q (h ∷ hs) ms = told q hs ms
+told qos [] messages = messages
+told qos (happens.Handed message ∷ rest) messages = told qos rest (if same_qos qos message.qos then messages ++ message ∷ [] else messages)
+told qos (happening ∷ rest) messages = told qos rest messages
 
 -- An identifier occurs in a list of pairs.
 abbrev pub is_given : ℕ → List (ℕ × Message) → Bool
-is_given i [] = false
-is_given i (p ∷ ps) = p.0 == i || is_given i ps
+is_given id [] = false
+is_given id (pair ∷ rest) = pair.0 == id || is_given id rest
 
 -- the place of the last pair with an identifier
 abbrev pub last_place : ℕ → List (ℕ × Message) → ℕ
-last_place i [] = 0
-last_place i (p ∷ ps) = if is_given i ps then last_place i ps + 1 else 0
+last_place id [] = 0
+last_place id (pair ∷ rest) = if is_given id rest then last_place id rest + 1 else 0
 
 -- the places freed, after those of these identifiers
 abbrev pub freed_with : List (ℕ × Message) → List ℕ → List ℕ → List ℕ
 freed_with given [] places = places
-freed_with given (i ∷ is) places = freed_with given is (places ++ last_place i given ∷ [])
+freed_with given (id ∷ rest) places = freed_with given rest (places ++ last_place id given ∷ [])
 
 -- the messages accepted, by quality of service (4.3), with one more
 abbrev pub accepted_with : Qos → ℕ → Message → Accepted → Accepted
-accepted_with Q0 i m a = record a { at_most_once = a.at_most_once ++ m ∷ [] }
-accepted_with Q1 i m a = record a { at_least_once = a.at_least_once ++ (i, m) ∷ [] }
-accepted_with Q2 i m a = record a { exactly_once = a.exactly_once ++ m ∷ [] }
+accepted_with Q0 id message accepted = record accepted { at_most_once = accepted.at_most_once ++ message ∷ [] }
+accepted_with Q1 id message accepted = record accepted { at_least_once = accepted.at_least_once ++ (id, message) ∷ [] }
+accepted_with Q2 id message accepted = record accepted { exactly_once = accepted.exactly_once ++ message ∷ [] }
 
 -- ---- moves
 
@@ -110,35 +110,35 @@ pub record Outcome : Type 0 where
 
 -- a side after its end's reply, with this left in the queue toward it
 abbrev pub took : Half → List Packet → Reply → Outcome
-took h rest r = record {
-  half = record h {
-    end = r.end;
-    coming = kept r.end.state rest;
+took half rest reply = record {
+  half = record half {
+    end = reply.end;
+    coming = kept reply.end.state rest;
     handed = record {
-      at_most_once = told Q0 r.happenings h.handed.at_most_once;
-      at_least_once = told Q1 r.happenings h.handed.at_least_once;
-      exactly_once = told Q2 r.happenings h.handed.exactly_once;
+      at_most_once = told Q0 reply.happenings half.handed.at_most_once;
+      at_least_once = told Q1 reply.happenings half.handed.at_least_once;
+      exactly_once = told Q2 reply.happenings half.handed.exactly_once;
     };
-    freed = freed_with h.accepted.at_least_once r.freed h.freed;
+    freed = freed_with half.accepted.at_least_once reply.freed half.freed;
   };
-  out = r.out;
+  out = reply.out;
 }
 
 -- A packet arrives at the end of a side.
 abbrev pub gets : Side → Packet → End → Reply
-gets Client p e = client_gets p e
-gets Server p e = server_gets p e
+gets Client packet end = client_gets packet end
+gets Server packet end = server_gets packet end
 
 -- the oldest packet of the queue comes (4.6)
 abbrev pub arrival : List Packet → Side → Half → Outcome
-arrival [] side h = record { half = h; out = [] }
-arrival (p ∷ rest) side h = took h rest (gets side p h.end)
+arrival [] side half = record { half = half; out = [] }
+arrival (packet ∷ rest) side half = took half rest (gets side packet half.end)
 
 -- A message is accepted, under this identifier if it has one (2.3.1, 4.3).
 abbrev pub publication : ℕ → Message → Half → Outcome
-publication i m h = record {
-  half = record h { end = (publishes i m h.end).end; accepted = accepted_with m.qos i m h.accepted };
-  out = (publishes i m h.end).out;
+publication id message half = record {
+  half = record half { end = (publishes id message half.end).end; accepted = accepted_with message.qos id message half.accepted };
+  out = (publishes id message half.end).out;
 }
 
 -- The actions of one side.
@@ -156,24 +156,24 @@ pub data Action : Type 0 where
 
 -- why the end of a side refuses a message
 abbrev pub refusal : Side → ℕ → ℕ → Message → End → Option PublishRefusal
-refusal Client limit capacity m e = publish_refusal limit capacity m e
-refusal Server limit capacity m e = server_publish_refusal limit capacity m e
+refusal Client limit capacity message end = publish_refusal limit capacity message end
+refusal Server limit capacity message end = server_publish_refusal limit capacity message end
 
 -- When it may: a message is not refused, and an identifier that it is given is free. A packet may
 -- come at any time, a connection may be lost at any time.
 abbrev pub May : ℕ → ℕ → Side → Action → Half → Type 0
-May limit capacity side (Publishes i m) h = (refusal side limit capacity m h.end ≡ None) × MayHave (has_identifier m.qos) h.end i
-May limit capacity side Arrives h = Unit {0}
-May limit capacity side Drops h = Unit {0}
-May limit capacity Client Leaves h = leave_refusal h.end ≡ None
-May limit capacity Server Leaves h = ⊥
-May limit capacity Client Pings h = is_up h.end.state ≡ true
-May limit capacity Server Pings h = ⊥
+May limit capacity side (Publishes id message) half = (refusal side limit capacity message half.end ≡ None) × MayHave (has_identifier message.qos) half.end id
+May limit capacity side Arrives half = Unit {0}
+May limit capacity side Drops half = Unit {0}
+May limit capacity Client Leaves half = leave_refusal half.end ≡ None
+May limit capacity Server Leaves half = ⊥
+May limit capacity Client Pings half = is_up half.end.state ≡ true
+May limit capacity Server Pings half = ⊥
 
 -- The effect of an action.
 abbrev pub moved : Side → Action → Half → Outcome
-moved side (Publishes i m) h = publication i m h
-moved side Arrives h = arrival h.coming side h
-moved side Drops h = took h [] (drops h.end)
-moved side Leaves h = took h [] (leaves h.end)
-moved side Pings h = record { half = h; out = packets.PingReq ∷ [] }
+moved side (Publishes id message) half = publication id message half
+moved side Arrives half = arrival half.coming side half
+moved side Drops half = took half [] (drops half.end)
+moved side Leaves half = took half [] (leaves half.end)
+moved side Pings half = record { half = half; out = packets.PingReq ∷ [] }

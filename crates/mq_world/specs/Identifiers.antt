@@ -10,15 +10,15 @@ use Rattle.mq_world.specs.Machine.{Machine, Move, By, Run, IsAllowed, after, bla
 
 -- a side of the machine
 abbrev pub half_of : Side → Machine → Half
-half_of Client w = w.client
-half_of Server w = w.server
+half_of Client machine = machine.client
+half_of Server machine = machine.server
 
 -- The identifiers of every run, and a newly assigned one (2.3.1).
 pub record IdentifiersLaw : Type 0 where
   -- at each side those in use are from 1 to 65,535, each in use once, and within the capacity
-  pub sound : (limit capacity : ℕ) (window : Option ℕ) (moves : List Move) (w : Machine) → Run limit capacity (blank_machine window) moves w
-      → (side : Side) → IsSound capacity (half_of side w).end.book
+  pub sound : (limit capacity : ℕ) (window : Option ℕ) (moves : List Move) (machine : Machine) → Run limit capacity (blank_machine window) moves machine
+      → (side : Side) → IsSound capacity (half_of side machine).end.book
   -- an identifier that a message is given was not in use, and there is room for it
-  pub given : (limit capacity i : ℕ) (m : Message) (side : Side) (w : Machine) → IsAllowed limit capacity w (By side (Publishes i m))
-      → has_identifier m.qos ≡ true
-      → IsGiven capacity (half_of side w).end.book (half_of side (after w (By side (Publishes i m)))).end.book i
+  pub given : (limit capacity id : ℕ) (message : Message) (side : Side) (machine : Machine) → IsAllowed limit capacity machine (By side (Publishes id message))
+      → has_identifier message.qos ≡ true
+      → IsGiven capacity (half_of side machine).end.book (half_of side (after machine (By side (Publishes id message)))).end.book id

@@ -8,24 +8,24 @@ use Rattle.mq_world.specs.Half.{Accepted, HandedOn}
 
 -- The messages that a side accepted.
 abbrev pub accepted_in : Account → Accepted
-accepted_in l =
-    record { at_most_once = l.accepted_at_most_once.items; at_least_once = l.accepted_at_least_once.items; exactly_once = l.accepted_exactly_once.items }
+accepted_in account =
+    record { at_most_once = account.accepted_at_most_once.items; at_least_once = account.accepted_at_least_once.items; exactly_once = account.accepted_exactly_once.items }
 
 -- The messages that it delivered.
 abbrev pub handed_in : Account → HandedOn
-handed_in l = record { at_most_once = l.handed_at_most_once.items; at_least_once = l.handed_at_least_once.items; exactly_once = l.handed_exactly_once.items }
+handed_in account = record { at_most_once = account.handed_at_most_once.items; at_least_once = account.handed_at_least_once.items; exactly_once = account.handed_exactly_once.items }
 
 -- how many messages of a quality of service were accepted
 abbrev pub accepted_count : Qos → Accepted → ℕ
-accepted_count Q0 a = length a.at_most_once
-accepted_count Q1 a = length a.at_least_once
-accepted_count Q2 a = length a.exactly_once
+accepted_count Q0 accepted = length accepted.at_most_once
+accepted_count Q1 accepted = length accepted.at_least_once
+accepted_count Q2 accepted = length accepted.exactly_once
 
 -- The number of delivered messages of one QoS.
 abbrev pub handed_count : Qos → HandedOn → ℕ
-handed_count Q0 h = length h.at_most_once
-handed_count Q1 h = length h.at_least_once
-handed_count Q2 h = length h.exactly_once
+handed_count Q0 handed = length handed.at_most_once
+handed_count Q1 handed = length handed.at_least_once
+handed_count Q2 handed = length handed.exactly_once
 
 -- Each list of accepted messages is as it was, perhaps with more messages behind.
 pub record AcceptedGrows (old new : Accepted) : Type 0 where

@@ -32,38 +32,38 @@ pub data Move : Type 0 where
 
 -- the client of a new connection: the queue toward it is empty
 abbrev pub opened_client : Half → Half
-opened_client h = record h { end = (connects first_packet h.end).end; coming = [] }
+opened_client half = record half { end = (connects first_packet half.end).end; coming = [] }
 
 -- The server of a new connection: the queue toward it has only the client's CONNECT (3.1).
 abbrev pub opened_server : List Packet → Half → Half
-opened_server ps h = record h { end = (opens h.end).end; coming = ps }
+opened_server packets half = record half { end = (opens half.end).end; coming = packets }
 
 -- a side that knows no keep-alive until its next connection (3.1.2.10)
 abbrev pub without_keep_alive : Half → Half
-without_keep_alive h = record h { end = record h.end { keep_alive = 0 } }
+without_keep_alive half = record half { end = record half.end { keep_alive = 0 } }
 
 -- when a move may be made; a connection may be opened at any time, and a program may end at any
 -- time
 abbrev pub IsAllowed : ℕ → ℕ → Machine → Move → Type 0
-IsAllowed limit capacity w (By Client action) = May limit capacity Client action w.client
-IsAllowed limit capacity w (By Server action) = May limit capacity Server action w.server
-IsAllowed limit capacity w Opens = Unit {0}
-IsAllowed limit capacity w Restarts = Unit {0}
+IsAllowed limit capacity machine (By Client action) = May limit capacity Client action machine.client
+IsAllowed limit capacity machine (By Server action) = May limit capacity Server action machine.server
+IsAllowed limit capacity machine Opens = Unit {0}
+IsAllowed limit capacity machine Restarts = Unit {0}
 
 -- The machine after a move: the packets that a side sends join the queue toward the other. If the
 -- client's program ends, its connection is lost; this is a drop, except that the keep-alive is not
 -- saved.
 abbrev pub after : Machine → Move → Machine
-after w (By Client action) = record { client = (moved Client action w.client).half; server = put (moved Client action w.client).out w.server }
-after w (By Server action) = record { client = put (moved Server action w.server).out w.client; server = (moved Server action w.server).half }
-after w Opens = record { client = opened_client w.client; server = opened_server (connects first_packet w.client.end).out w.server }
-after w Restarts = record {
-  client = (moved Client Drops (without_keep_alive w.client)).half;
-  server = put (moved Client Drops (without_keep_alive w.client)).out w.server;
+after machine (By Client action) = record { client = (moved Client action machine.client).half; server = put (moved Client action machine.client).out machine.server }
+after machine (By Server action) = record { client = put (moved Server action machine.server).out machine.client; server = (moved Server action machine.server).half }
+after machine Opens = record { client = opened_client machine.client; server = opened_server (connects first_packet machine.client.end).out machine.server }
+after machine Restarts = record {
+  client = (moved Client Drops (without_keep_alive machine.client)).half;
+  server = put (moved Client Drops (without_keep_alive machine.client)).out machine.server;
 }
 
 -- The machine can make these moves, one after another. `limit` bounds the remaining length of
 -- published messages, `capacity` the identifiers in use at a side.
 abbrev pub Run : ℕ → ℕ → Machine → List Move → Machine → Type 0
-Run limit capacity w [] v = v ≡ w
-Run limit capacity w (move ∷ moves) v = IsAllowed limit capacity w move × Run limit capacity (after w move) moves v
+Run limit capacity machine [] reached = reached ≡ machine
+Run limit capacity machine (move ∷ moves) reached = IsAllowed limit capacity machine move × Run limit capacity (after machine move) moves reached

@@ -19,33 +19,35 @@ made_side word = if word / 8 % 2 == 0 then Client else Server
 abbrev pub made_qos : ℕ → Qos
 made_qos value = if value % 3 == 0 then Q0 else (if value % 3 == 1 then Q1 else Q2)
 
--- the message of step n: the topic `t`, and as the payload n in four bytes, the high byte first
+-- The message of a step: the topic `t`, and as the payload the step's number in four bytes, the
+-- high byte first.
 abbrev pub made_message : Qos → ℕ → Message
-made_message qos n = record { topic = 116 ∷ []; payload = to_be_bytes w32 n; qos = qos; retain = false }
+made_message qos number = record { topic = 116 ∷ []; payload = to_be_bytes w32 number; qos = qos; retain = false }
 
 -- the connection of a side is lost, or one time in four the user of the client leaves (3.14)
 abbrev pub made_loss : Side → ℕ → Event
 made_loss side value = if value % 4 == 0 then events.Leave else events.Drop side
 
--- The event of step `n`, by its kind from 0 to 7, its side and a number: of the eight kinds two are
--- messages, three are deliveries, and one each is a lost connection, an opening, and passing time.
+-- The event of the step with this number, by its kind from 0 to 7, its side and a value: of the
+-- eight kinds two are messages, three are deliveries, and one each is a lost connection, an
+-- opening, and passing time.
 abbrev pub event_of_kind : ℕ → Side → ℕ → ℕ → Event
-event_of_kind kind side value n =
-    if nat_lt kind 2 then events.Publish side (made_message (made_qos value) n)
+event_of_kind kind side value number =
+    if nat_lt kind 2 then events.Publish side (made_message (made_qos value) number)
     else (if nat_lt kind 5 then events.Deliver side (value % 32)
     else (if kind == 5 then made_loss side value
     else (if kind == 6 then events.Open
     else events.Tick side (value % 1000))))
 
--- the event of step n, by its word: three bits for the kind, one for the side, and the others for
--- the number
+-- The event of a step, by its word: three bits for the kind, one for the side, and the others for
+-- the value.
 abbrev pub made_event : ℕ → ℕ → Event
-made_event word n = event_of_kind (word % 8) (made_side word) (word / 16) n
+made_event word number = event_of_kind (word % 8) (made_side word) (word / 16) number
 
--- `count` events from step `n` on, each by the next word of a generator.
+-- `steps` events from the step with this number on, each by the next word of a generator.
 unfoldable pub made_from : Lcg → ℕ → ℕ → List Event
-made_from g n zero = []
-made_from g n (suc steps) = made_event (pcg32 g).0 n ∷ made_from (pcg32 g).1 (suc n) steps
+made_from generator number zero = []
+made_from generator number (suc steps) = made_event (pcg32 generator).0 number ∷ made_from (pcg32 generator).1 (suc number) steps
 
 -- The events of the generator with this start value.
 abbrev pub made_up : ℕ → ℕ → List Event

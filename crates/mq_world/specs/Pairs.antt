@@ -5,21 +5,21 @@ use Rattle.mq_world.specs.Listed.{accepted_in, handed_in}
 
 -- the sides, each with its end, the bytes in flight to it, and its lists
 abbrev pub wired_of : Pair → Wired
-wired_of p = record {
+wired_of pair = record {
   client = record {
-    state = p.client.link;
-    clock = p.client_clock;
-    wire = p.to_client;
-    accepted = accepted_in p.trace.client;
-    handed = handed_in p.trace.client;
-    freed = p.trace.client.freed.items;
+    state = pair.client.link;
+    clock = pair.client_clock;
+    wire = pair.to_client;
+    accepted = accepted_in pair.trace.client;
+    handed = handed_in pair.trace.client;
+    freed = pair.trace.client.freed.items;
   };
   server = record {
-    state = p.server;
-    clock = p.server_clock;
-    wire = p.to_server;
-    accepted = accepted_in p.trace.server;
-    handed = handed_in p.trace.server;
-    freed = p.trace.server.freed.items;
+    state = pair.server;
+    clock = pair.server_clock;
+    wire = pair.to_server;
+    accepted = accepted_in pair.trace.server;
+    handed = handed_in pair.trace.server;
+    freed = pair.trace.server.freed.items;
   };
 }

@@ -8,9 +8,9 @@ use Rattle.mq_world.specs.Settling.{arrivals, settled}
 -- Arrivals and settling add nothing that the moves could not do.
 pub record RunsLaw : Type 0 where
   -- one run after another is a run
-  pub joins : (limit capacity : ℕ) (u v w : Machine) (xs ys : List Move) → Run limit capacity u xs v → Run limit capacity v ys w
-      → Run limit capacity u (xs ++ ys) w
+  pub joins : (limit capacity : ℕ) (start between machine : Machine) (first more : List Move) → Run limit capacity start first between
+      → Run limit capacity between more machine → Run limit capacity start (first ++ more) machine
   -- Several arrivals at a side are a run.
-  pub arrive : (limit capacity n : ℕ) (side : Side) (w : Machine) → Run limit capacity w (replicate n (By side Arrives)) (arrivals n side w)
+  pub arrive : (limit capacity count : ℕ) (side : Side) (machine : Machine) → Run limit capacity machine (replicate count (By side Arrives)) (arrivals count side machine)
   -- and so is settling
-  pub settle : (limit capacity : ℕ) (w : Machine) → (moves : List Move) × Run limit capacity w moves (settled w)
+  pub settle : (limit capacity : ℕ) (machine : Machine) → (moves : List Move) × Run limit capacity machine moves (settled machine)

@@ -14,43 +14,43 @@ use Rattle.mq_world.specs.Carries.{Wired, IsSpanned, seen}
 use Rattle.mq_world.specs.OverBytes.{Stands, near, far, facing, with_more, hearing, ReceivesAt, SameBounds}
 
 -- The state after settling (4.4), compared with the one before.
-pub record SettledFrom (w v : Wired) : Type 0 where
+pub record SettledFrom (old new : Wired) : Type 0 where
   -- neither side holds a message or a released identifier
-  pub client_idle : Idle (seen v).client
-  pub server_idle : Idle (seen v).server
+  pub client_idle : Idle (seen new).client
+  pub server_idle : Idle (seen new).server
   -- In each direction every accepted message was delivered.
-  pub to_server : AllHanded (seen v).client (seen v).server
-  pub to_client : AllHanded (seen v).server (seen v).client
+  pub to_server : AllHanded (seen new).client (seen new).server
+  pub to_client : AllHanded (seen new).server (seen new).client
   -- and nothing was accepted meanwhile
-  pub client_same : v.client.accepted ≡ w.client.accepted
-  pub server_same : v.server.accepted ≡ w.server.accepted
+  pub client_same : new.client.accepted ≡ old.client.accepted
+  pub server_same : new.server.accepted ≡ old.server.accepted
   -- Both sides are connected, and no bytes are in flight.
-  pub client_up : v.client.state.end.state ≡ Connected
-  pub server_up : v.server.state.end.state ≡ Connected
-  pub client_bytes : v.client.state.held ++ v.client.wire ≡ []
-  pub server_bytes : v.server.state.held ++ v.server.wire ≡ []
+  pub client_up : new.client.state.end.state ≡ Connected
+  pub server_up : new.server.state.end.state ≡ Connected
+  pub client_bytes : new.client.state.held ++ new.client.wire ≡ []
+  pub server_bytes : new.server.state.held ++ new.server.wire ≡ []
 
 -- neither side holds a message
-pub record HoldsNothing (v : Wired) : Type 0 where
-  pub client : v.client.state.end.book.entries ≡ []
-  pub server : v.server.state.end.book.entries ≡ []
+pub record HoldsNothing (world : Wired) : Type 0 where
+  pub client : world.client.state.end.book.entries ≡ []
+  pub server : world.server.state.end.book.entries ≡ []
 
 -- The exchanges of a world over bytes are those of the machine.
 pub record SettlesOver : Type 0 where
   -- All bytes in flight to a side with a connection arrive, and none of its allocations fails.
-  pub deliver_all : (limit : Bounds) (capacity : ℕ) (side : Side) (w : Wired) (m : Machine) (new : EndState) (happenings : List Happening)
+  pub deliver_all : (limit : Bounds) (capacity : ℕ) (side : Side) (world : Wired) (machine : Machine) (new : EndState) (happenings : List Happening)
       (acknowledged : List ℕ) (closed : Option CloseReason)
-      → Stands limit capacity w m → is_live (near side w).state.end.state ≡ true
-      → ReceivesAt side (near side w).wire (near side w).state new happenings acknowledged closed → SameBounds (near side w).state new
+      → Stands limit capacity world machine → is_live (near side world).state.end.state ≡ true
+      → ReceivesAt side (near side world).wire (near side world).state new happenings acknowledged closed → SameBounds (near side world).state new
       → closed ≢ Some reasons.Memory
-      → Stands limit capacity (facing side (hearing [] new happenings acknowledged closed (near side w)) (with_more new.output (far side w))) (delivered side m)
+      → Stands limit capacity (facing side (hearing [] new happenings acknowledged closed (near side world)) (with_more new.output (far side world))) (delivered side machine)
   -- all the bytes in flight to a side without a connection are lost
-  pub lose_all : (limit : Bounds) (capacity : ℕ) (side : Side) (w : Wired) (m : Machine) → Stands limit capacity w m
-      → is_live (near side w).state.end.state ≡ false
-      → Stands limit capacity (facing side (record (near side w) { wire = [] }) (far side w)) (delivered side m)
+  pub lose_all : (limit : Bounds) (capacity : ℕ) (side : Side) (world : Wired) (machine : Machine) → Stands limit capacity world machine
+      → is_live (near side world).state.end.state ≡ false
+      → Stands limit capacity (facing side (record (near side world) { wire = [] }) (far side world)) (delivered side machine)
   -- The state after the third exchange of a new connection, and after the second if the capacity is
   -- at most the window.
-  pub settles : (limit : Bounds) (capacity : ℕ) (w v : Wired) (m : Machine) → IsSpanned capacity w → Stands limit capacity w m
-      → Stands limit capacity v (settled m) → SettledFrom w v
-  pub second : (limit : Bounds) (capacity : ℕ) (w v : Wired) (m : Machine) → IsSpanned capacity w → Stands limit capacity w m
-      → Stands limit capacity v (exchange (exchange (after m Opens))) → HoldsNothing v
+  pub settles : (limit : Bounds) (capacity : ℕ) (world reached : Wired) (machine : Machine) → IsSpanned capacity world → Stands limit capacity world machine
+      → Stands limit capacity reached (settled machine) → SettledFrom world reached
+  pub second : (limit : Bounds) (capacity : ℕ) (world reached : Wired) (machine : Machine) → IsSpanned capacity world → Stands limit capacity world machine
+      → Stands limit capacity reached (exchange (exchange (after machine Opens))) → HoldsNothing reached

@@ -17,9 +17,9 @@ abbrev pub later : ℕ → ℕ → ℕ
 later clock more = min (clock + more) (2 ^ 64 - 1)
 
 -- No time passes for a side, and its time of last activity stays.
-pub record SameTime (x y : WiredSide) : Type 0 where
-  pub clock : y.clock ≡ x.clock
-  pub last_activity : y.state.last_activity ≡ x.state.last_activity
+pub record SameTime (old new : WiredSide) : Type 0 where
+  pub clock : new.clock ≡ old.clock
+  pub last_activity : new.state.last_activity ≡ old.state.last_activity
 
 -- No time passes.
 pub record SameTimes (old new : Wired) : Type 0 where
@@ -29,8 +29,8 @@ pub record SameTimes (old new : Wired) : Type 0 where
 -- A side receives bytes: no time passes; if they complete a packet, that is the server's time of
 -- last activity (3.1.2.10).
 abbrev pub HearsIn : Side → List ℕ → Option CloseReason → WiredSide → WiredSide → Type 0
-HearsIn Client b closed x y = SameTime x y
-HearsIn Server b closed x y = (y.clock ≡ x.clock) × HearsAt x.clock b closed x.state y.state
+HearsIn Client bytes closed old new = SameTime old new
+HearsIn Server bytes closed old new = (new.clock ≡ old.clock) × HearsAt old.clock bytes closed old.state new.state
 
 -- A connection begins: no time passes, and both keep-alives start now (3.1.2.10).
 pub record BeginsNow (old new : Wired) : Type 0 where
@@ -41,21 +41,21 @@ pub record BeginsNow (old new : Wired) : Type 0 where
 
 -- The reason if `tick` closes an end; the client's never does.
 abbrev pub time_closes : Side → ℕ → EndState → Option CloseReason
-time_closes Client now s = None
-time_closes Server now s = (server_ticks s.last_activity now s.end).close
+time_closes Client now state = None
+time_closes Server now state = (server_ticks state.last_activity now state.end).close
 
 -- The machine's moves: a connected client sends PINGREQ if it is due; a connected server drops a
 -- late client (3.1.2.10).
 abbrev pub time_moves : Side → ℕ → EndState → List Move
-time_moves Client now s = if pings s.last_activity now s.end then By Client Pings ∷ [] else []
-time_moves Server now s = if is_up s.end.state && is_late s.last_activity s.end.keep_alive now then By Server Drops ∷ [] else []
+time_moves Client now state = if pings state.last_activity now state.end then By Client Pings ∷ [] else []
+time_moves Server now state = if is_up state.end.state && is_late state.last_activity state.end.keep_alive now then By Server Drops ∷ [] else []
 
 -- The output of `tick`: PINGREQ if it is due; the server's is empty.
 abbrev pub time_out : Side → ℕ → EndState → List Packet
-time_out Client now s = (client_ticks s.last_activity now s.end).out
-time_out Server now s = []
+time_out Client now state = (client_ticks state.last_activity now state.end).out
+time_out Server now state = []
 
 -- The time of last activity after `tick`.
 abbrev pub time_moment : Side → ℕ → EndState → ℕ
-time_moment Client now s = client_since s.last_activity now s.end
-time_moment Server now s = s.last_activity
+time_moment Client now state = client_since state.last_activity now state.end
+time_moment Server now state = state.last_activity

@@ -42,29 +42,29 @@ pub record WorldState : Type 0 where
   pub answers : List Answer
 
 -- A new world: no session, no connection, no byte in flight, no message accepted or delivered.
-pub record IsNew (limit : Bounds) (capacity : ℕ) (window : Option ℕ) (w : Wired) : Type 0 where
-  pub stands : Stands limit capacity w (blank_machine window)
-  pub client_clock : w.client.clock ≡ 0
-  pub server_clock : w.server.clock ≡ 0
-  pub to_client : w.client.wire ≡ []
-  pub to_server : w.server.wire ≡ []
+pub record IsNew (limit : Bounds) (capacity : ℕ) (window : Option ℕ) (world : Wired) : Type 0 where
+  pub stands : Stands limit capacity world (blank_machine window)
+  pub client_clock : world.client.clock ≡ 0
+  pub server_clock : world.server.clock ≡ 0
+  pub to_client : world.client.wire ≡ []
+  pub to_server : world.server.wire ≡ []
 
 -- whatever machine a world carries, these moves of it lead to one that another world carries
 abbrev pub Moves : Bounds → ℕ → Wired → List Move → Wired → Type 0
-Moves limit capacity old moves new = (m : Machine) → Stands limit capacity old m → Follows limit capacity m moves new
+Moves limit capacity old moves new = (machine : Machine) → Stands limit capacity old machine → Follows limit capacity machine moves new
 
 -- ---- The effect of an event
 
 -- A message is accepted, under the first free identifier after the one assigned last if it has one
 -- (2.3.1, 4.3). Its PUBLISH is sent if the side is connected; nothing else changes on either wire.
-pub record IsAccepted (limit : Bounds) (capacity : ℕ) (side : Side) (m : Message) (answer : Option ℕ) (old new : Wired) : Type 0 where
+pub record IsAccepted (limit : Bounds) (capacity : ℕ) (side : Side) (message : Message) (answer : Option ℕ) (old new : Wired) : Type 0 where
   pub id : ℕ
-  pub answered : answer ≡ answered_identifier m.qos id
-  pub first : has_identifier m.qos ≡ true → IsFirstFree (near side old).state.end.last (near side old).state.end.book id
+  pub answered : answer ≡ answered_identifier message.qos id
+  pub first : has_identifier message.qos ≡ true → IsFirstFree (near side old).state.end.last (near side old).state.end.book id
   pub wire : (near side new).wire ≡ (near side old).wire
-  pub out : PutsOut (publishes id m (near side old).state.end).out (far side old).wire (far side new).wire
+  pub out : PutsOut (publishes id message (near side old).state.end).out (far side old).wire (far side new).wire
   pub times : SameTimes old new
-  pub moves : Moves limit capacity old (By side (Publishes id m) ∷ []) new
+  pub moves : Moves limit capacity old (By side (Publishes id message) ∷ []) new
 
 -- The first reason to refuse a message, or that an allocation failed.
 abbrev pub reason_or_memory : Option PublishRefusal → PublishRefusal
@@ -72,42 +72,42 @@ reason_or_memory None = refusals.Memory
 reason_or_memory (Some why) = why
 
 -- It is refused, and nothing changes.
-pub record IsRefused (limit : Bounds) (capacity : ℕ) (side : Side) (m : Message) (why : PublishRefusal) (old new : Wired) : Type 0 where
-  pub reason : why ≡ reason_or_memory (refusal side limit.most capacity m (near side old).state.end)
+pub record IsRefused (limit : Bounds) (capacity : ℕ) (side : Side) (message : Message) (why : PublishRefusal) (old new : Wired) : Type 0 where
+  pub reason : why ≡ reason_or_memory (refusal side limit.most capacity message (near side old).state.end)
   pub same : new ≡ old
 
 -- The end of a side that has a connection receives the bytes: the world after it.
-pub record Hears (side : Side) (left : List ℕ) (d : Delivery) (old new : Wired) : Type 0 where
+pub record Hears (side : Side) (left : List ℕ) (delivery : Delivery) (old new : Wired) : Type 0 where
   pub state : EndState
-  pub receives : ReceivesAt side d.bytes (near side old).state state d.progress.happenings d.progress.acknowledged d.progress.closed
+  pub receives : ReceivesAt side delivery.bytes (near side old).state state delivery.progress.happenings delivery.progress.acknowledged delivery.progress.closed
   pub bounds : SameBounds (near side old).state state
-  pub world : new ≡ facing side (hearing left state d.progress.happenings d.progress.acknowledged d.progress.closed (near side old))
+  pub world : new ≡ facing side (hearing left state delivery.progress.happenings delivery.progress.acknowledged delivery.progress.closed (near side old))
       (with_more state.output (far side old))
   -- If a packet is complete, this is the server's time of last activity (3.1.2.10).
-  pub heard : HearsIn side ((near side old).state.held ++ d.bytes) d.progress.closed (near side old) (near side new)
+  pub heard : HearsIn side ((near side old).state.held ++ delivery.bytes) delivery.progress.closed (near side old) (near side new)
 
 -- The end of a side without a connection lets the bytes go.
-pub record Ignores (side : Side) (left : List ℕ) (d : Delivery) (old new : Wired) : Type 0 where
-  pub happenings : d.progress.happenings ≡ []
-  pub acknowledged : d.progress.acknowledged ≡ []
-  pub closed : d.progress.closed ≡ None
+pub record Ignores (side : Side) (left : List ℕ) (delivery : Delivery) (old new : Wired) : Type 0 where
+  pub happenings : delivery.progress.happenings ≡ []
+  pub acknowledged : delivery.progress.acknowledged ≡ []
+  pub closed : delivery.progress.closed ≡ None
   pub world : new ≡ facing side (record (near side old) { wire = left }) (far side old)
 
 -- Some bytes arrive at a side, or all bytes in flight to it if there are fewer (4.2, 4.6).
-pub record IsDelivered (limit : Bounds) (capacity : ℕ) (side : Side) (count : ℕ) (d : Delivery) (old new : Wired) : Type 0 where
-  pub to : d.side ≡ side
-  pub bytes : d.bytes ≡ take count (near side old).wire
+pub record IsDelivered (limit : Bounds) (capacity : ℕ) (side : Side) (count : ℕ) (delivery : Delivery) (old new : Wired) : Type 0 where
+  pub to : delivery.side ≡ side
+  pub bytes : delivery.bytes ≡ take count (near side old).wire
   -- they are no longer in flight, and an end that closes leaves nothing there
-  pub left : (near side new).wire ≡ left_on d.progress.closed (drop count (near side old).wire)
+  pub left : (near side new).wire ≡ left_on delivery.progress.closed (drop count (near side old).wire)
   -- Reported messages are delivered, and acknowledged ones freed.
-  pub handed : (near side new).handed ≡ handed_with d.progress.happenings (near side old).handed
-  pub freed : (near side new).freed ≡ freed_with (near side old).accepted.at_least_once d.progress.acknowledged (near side old).freed
-  pub lost : d.lost ≡ (not (is_live (near side old).state.end.state) && nat_lt 0 (length d.bytes))
+  pub handed : (near side new).handed ≡ handed_with delivery.progress.happenings (near side old).handed
+  pub freed : (near side new).freed ≡ freed_with (near side old).accepted.at_least_once delivery.progress.acknowledged (near side old).freed
+  pub lost : delivery.lost ≡ (not (is_live (near side old).state.end.state) && nat_lt 0 (length delivery.bytes))
   -- with a connection, just the packets whose last byte is among them arrive
-  pub arrive : is_live (near side old).state.end.state ≡ true → (m : Machine) → Stands limit capacity old m
-      → Delivers limit capacity side m ((near side old).state.held ++ d.bytes) d.progress.closed new
-  pub hears : is_live (near side old).state.end.state ≡ true → Hears side (drop count (near side old).wire) d old new
-  pub ignores : is_live (near side old).state.end.state ≡ false → Ignores side (drop count (near side old).wire) d old new
+  pub arrive : is_live (near side old).state.end.state ≡ true → (machine : Machine) → Stands limit capacity old machine
+      → Delivers limit capacity side machine ((near side old).state.held ++ delivery.bytes) delivery.progress.closed new
+  pub hears : is_live (near side old).state.end.state ≡ true → Hears side (drop count (near side old).wire) delivery old new
+  pub ignores : is_live (near side old).state.end.state ≡ false → Ignores side (drop count (near side old).wire) delivery old new
 
 -- The connection of a side is lost, with the bytes in flight to it (4.2). The other side is
 -- unchanged, and so are the bytes in flight to it.
@@ -134,14 +134,14 @@ pub record IsNotRestarted (limit : Bounds) (capacity : ℕ) (was_open : Bool) (w
 
 -- A connection is opened (3.1), and earlier ones are lost: just the encoding of its CONNECT is in
 -- flight. If an allocation for CONNECT fails, both ends are closed.
-pub record IsOpened (limit : Bounds) (capacity : ℕ) (o : Opening) (old new : Wired) : Type 0 where
-  pub client_dropped : o.client_dropped ≡ is_live old.client.state.end.state
-  pub server_dropped : o.server_dropped ≡ is_live old.server.state.end.state
+pub record IsOpened (limit : Bounds) (capacity : ℕ) (opening : Opening) (old new : Wired) : Type 0 where
+  pub client_dropped : opening.client_dropped ≡ is_live old.client.state.end.state
+  pub server_dropped : opening.server_dropped ≡ is_live old.server.state.end.state
   pub to_client : new.client.wire ≡ []
-  pub out : o.refused ≡ false → PutsOut (packets.Connect first_packet ∷ []) [] new.server.wire
-  pub begins : o.refused ≡ false → BeginsNow old new
-  pub opens : o.refused ≡ false → Moves limit capacity old (Opens ∷ []) new
-  pub refused : o.refused ≡ true → (new.server.wire ≡ []) × SameTimes old new × Moves limit capacity old (By Client Drops ∷ By Server Drops ∷ []) new
+  pub out : opening.refused ≡ false → PutsOut (packets.Connect first_packet ∷ []) [] new.server.wire
+  pub begins : opening.refused ≡ false → BeginsNow old new
+  pub opens : opening.refused ≡ false → Moves limit capacity old (Opens ∷ []) new
+  pub refused : opening.refused ≡ true → (new.server.wire ≡ []) × SameTimes old new × Moves limit capacity old (By Client Drops ∷ By Server Drops ∷ []) new
 
 -- The client disconnects: DISCONNECT is sent, and bytes in flight to the client are lost (3.14,
 -- 4.2).
@@ -177,15 +177,15 @@ pub record IsNotTold (side : Side) (more : ℕ) (why : PublishRefusal) (old new 
 
 -- The effect of an event, by its answer.
 abbrev pub Does : Bounds → ℕ → Event → Answer → Wired → Wired → Type 0
-Does limit capacity (events.Publish side m) (answers.Published at (Ok id)) old new = (at ≡ side) × IsAccepted limit capacity side m id old new
-Does limit capacity (events.Publish side m) (answers.Published at (Err why)) old new = (at ≡ side) × IsRefused limit capacity side m why old new
-Does limit capacity (events.Deliver side count) (answers.Delivered d) old new = IsDelivered limit capacity side count d old new
+Does limit capacity (events.Publish side message) (answers.Published at (Ok id)) old new = (at ≡ side) × IsAccepted limit capacity side message id old new
+Does limit capacity (events.Publish side message) (answers.Published at (Err why)) old new = (at ≡ side) × IsRefused limit capacity side message why old new
+Does limit capacity (events.Deliver side count) (answers.Delivered delivery) old new = IsDelivered limit capacity side count delivery old new
 Does limit capacity (events.Drop side) (answers.Dropped at was_open) old new = (at ≡ side) × IsLost limit capacity side was_open old new
 Does limit capacity events.Restart (answers.Restarted was_open (Ok done)) old new = IsRestarted limit capacity was_open old new
 Does limit capacity events.Restart (answers.Restarted was_open (Err why)) old new = IsNotRestarted limit capacity was_open why old new
 Does limit capacity events.Leave (answers.Left (Ok done)) old new = IsLeft limit capacity old new
 Does limit capacity events.Leave (answers.Left (Err why)) old new = IsNotLeft why old new
-Does limit capacity events.Open (answers.Opened o) old new = IsOpened limit capacity o old new
+Does limit capacity events.Open (answers.Opened opening) old new = IsOpened limit capacity opening old new
 Does limit capacity (events.Tick side more) (answers.Ticked at (Ok closed)) old new = (at ≡ side) × IsTold limit capacity side more closed old new
 Does limit capacity (events.Tick side more) (answers.Ticked at (Err why)) old new = (at ≡ side) × IsNotTold side more why old new
 Does limit capacity event answer old new = ⊥
@@ -193,18 +193,18 @@ Does limit capacity event answer old new = ⊥
 -- Events one after another, each with its answer.
 abbrev pub Leads : Bounds → ℕ → List Event → List Answer → Wired → Wired → Type 0
 Leads limit capacity [] [] old new = new ≡ old
-Leads limit capacity (e ∷ es) (a ∷ rest) old new = (mid : Wired) × Does limit capacity e a old mid × Leads limit capacity es rest mid new
-Leads limit capacity [] (a ∷ rest) old new = ⊥
-Leads limit capacity (e ∷ es) [] old new = ⊥
+Leads limit capacity (event ∷ next_events) (answer ∷ rest) old new = (mid : Wired) × Does limit capacity event answer old mid × Leads limit capacity next_events rest mid new
+Leads limit capacity [] (answer ∷ rest) old new = ⊥
+Leads limit capacity (event ∷ next_events) [] old new = ⊥
 
 -- ---- settling
 
 -- All bytes that are in flight to each of these sides come, one side after another.
 abbrev pub InTurn : Bounds → ℕ → List Side → List Delivery → Wired → Wired → Type 0
 InTurn limit capacity [] [] old new = new ≡ old
-InTurn limit capacity (side ∷ sides) (d ∷ rest) old new =
-    (mid : Wired) × IsDelivered limit capacity side (length (near side old).wire) d old mid × InTurn limit capacity sides rest mid new
-InTurn limit capacity [] (d ∷ rest) old new = ⊥
+InTurn limit capacity (side ∷ sides) (delivery ∷ rest) old new =
+    (mid : Wired) × IsDelivered limit capacity side (length (near side old).wire) delivery old mid × InTurn limit capacity sides rest mid new
+InTurn limit capacity [] (delivery ∷ rest) old new = ⊥
 InTurn limit capacity (side ∷ sides) [] old new = ⊥
 
 -- an exchange: toward the server, then toward the client; and three of them
@@ -214,35 +214,35 @@ exchanges = Server ∷ Client ∷ Server ∷ Client ∷ Server ∷ Client ∷ []
 -- nothing of an end's own waits for the other end: it holds no message, and no identifier is
 -- released (4.3)
 abbrev pub IsIdle : End → Type 0
-IsIdle e = (e.book.entries ≡ []) × (e.book.released ≡ [])
+IsIdle end = (end.book.entries ≡ []) × (end.book.released ≡ [])
 
 -- Memory did not run out while a world settled: not for CONNECT, and no end closed for lack of it.
 abbrev pub MetNoWant : Answer → Type 0
-MetNoWant (answers.Settled s) = (s.opening.refused ≡ false) × All (λ d. d.progress.closed ≢ Some reasons.Memory) s.deliveries
+MetNoWant (answers.Settled settling) = (settling.opening.refused ≡ false) × All (λ delivery. delivery.progress.closed ≢ Some reasons.Memory) settling.deliveries
 MetNoWant answer = ⊥
 
 -- no end closed since a message did not fit its window
 abbrev pub IsNeverFull : Answer → Type 0
-IsNeverFull (answers.Delivered d) = d.progress.closed ≢ Some reasons.Window
+IsNeverFull (answers.Delivered delivery) = delivery.progress.closed ≢ Some reasons.Window
 IsNeverFull (answers.Ticked side (Ok closed)) = closed ≢ Some reasons.Window
-IsNeverFull (answers.Settled s) = All (λ d. d.progress.closed ≢ Some reasons.Window) s.deliveries
+IsNeverFull (answers.Settled settling) = All (λ delivery. delivery.progress.closed ≢ Some reasons.Window) settling.deliveries
 IsNeverFull answer = Unit {0}
 
 -- A connection is opened, and three exchanges follow (4.4).
-pub record IsSettled (limit : Bounds) (capacity : ℕ) (s : Settling) (old new : Wired) : Type 0 where
+pub record IsSettled (limit : Bounds) (capacity : ℕ) (settling : Settling) (old new : Wired) : Type 0 where
   -- the worlds after the opening and after the second exchange
   pub between : Wired
   pub second : Wired
-  pub opened : IsOpened limit capacity s.opening old between
-  pub exchanged_twice : InTurn limit capacity (take 4 exchanges) (take 4 s.deliveries) between second
-  pub exchanged_again : InTurn limit capacity (drop 4 exchanges) (drop 4 s.deliveries) second new
+  pub opened : IsOpened limit capacity settling.opening old between
+  pub exchanged_twice : InTurn limit capacity (take 4 exchanges) (take 4 settling.deliveries) between second
+  pub exchanged_again : InTurn limit capacity (drop 4 exchanges) (drop 4 settling.deliveries) second new
   -- Two exchanges are enough for the messages; the third completes released identifiers, if the
   -- capacity is at most the window.
-  pub second_left : IsSpanned capacity old → MetNoWant (answers.Settled s) → HoldsNothing second
+  pub second_left : IsSpanned capacity old → MetNoWant (answers.Settled settling) → HoldsNothing second
   -- A server without a session has no pending output.
-  pub idle : IsTrue s.idle ↔ (IsIdle new.client.state.end × (new.server.state.end.known ≡ true → IsIdle new.server.state.end))
+  pub idle : IsTrue settling.idle ↔ (IsIdle new.client.state.end × (new.server.state.end.known ≡ true → IsIdle new.server.state.end))
 
 -- The effect of settling, by its answer.
 abbrev pub Settles : Bounds → ℕ → Answer → Wired → Wired → Type 0
-Settles limit capacity (answers.Settled s) old new = IsSettled limit capacity s old new
+Settles limit capacity (answers.Settled settling) old new = IsSettled limit capacity settling old new
 Settles limit capacity answer old new = ⊥

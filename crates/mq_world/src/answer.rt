@@ -12,7 +12,7 @@ use std::alloc::AllocError;
 pub struct Delivery {
     /// The side to which the bytes arrived.
     pub side: Side,
-    /// The bytes that came.
+    /// The bytes that arrived.
     pub bytes: BoxedList<u8>,
     /// Whether there were bytes, but no connection that could take them in.
     pub lost: bool,
@@ -47,7 +47,7 @@ pub struct Settling {
 pub enum Answer {
     /// A message was accepted, with its packet identifier if it has one, or it was refused.
     Published(Side, Result<Option<PacketId>, PublishRefusal>),
-    /// Bytes came to a side.
+    /// Bytes arrived at a side.
     Delivered(Delivery),
     /// The connection of a side is lost. The flag says whether it was open.
     Dropped(Side, bool),

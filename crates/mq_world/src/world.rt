@@ -195,8 +195,8 @@ impl World {
     /// Opens a connection and makes three exchanges, in each of which all bytes in flight to the
     /// server are delivered, then all in flight to the client (4.4).
     ///
-    /// If no end closed for lack of memory, and the capacity is at most the window, both sides are
-    /// idle afterwards, and each accepted QoS 1 or 2 message was delivered, QoS 2 exactly once and
+    /// If no allocation fails, and the capacity is at most the window, both sides are idle
+    /// afterwards, and each accepted QoS 1 or 2 message was delivered, QoS 2 exactly once and
     /// in order. On `Err` each later call fails too and changes nothing.
     pub fn settle(&mut self) -> Result<Answer, AllocError>
         ensures settles { IfOk result (λ answer. Settles self.old.limit self.old.capacity answer self.old.wired self.new.wired) }

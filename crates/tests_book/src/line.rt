@@ -4,7 +4,7 @@ ghost use Rattle.std.specs.Prelude.{◌≡◌, ◌<◌, None, IfOk};
 
 use mq_decode::Limits;
 use mq_hub::{HubConfig, WhenFull};
-use mq_stream::{Broken, Clock, ReadOutcome, Stream};
+use mq_stream::{Clock, ReadOutcome, Stream, StreamError};
 use std::io::Read;
 use std::test::Fail;
 
@@ -32,9 +32,9 @@ impl Stream for Line {
         }
     }
 
-    fn write_all(&mut self, bytes: &[u8]) -> Result<(), Broken> {
+    fn write_all(&mut self, bytes: &[u8]) -> Result<(), StreamError> {
         if self.writes == 0 || self.written.extend_from_slice(bytes).is_err() {
-            return Err(Broken);
+            return Err(StreamError);
         }
         self.writes -= 1;
         Ok(())

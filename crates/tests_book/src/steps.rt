@@ -18,7 +18,7 @@ use std::test::Fail;
 pub(crate) enum Happens {
     /// A connection with this number is opened.
     Opens(u32),
-    /// Bytes come on a connection.
+    /// Bytes arrive on a connection.
     Says(u32),
     /// The time.
     Ticks(u64),

@@ -5,7 +5,7 @@ ghost use Rattle.std.specs.Prelude.{◌≡◌, ◌≤◌, IfOk, length};
 use mq_client::{NoSaver, Peer, SessionSaver};
 use mq_decode::Limits;
 use mq_end::{ClientConfig, ClientEnd};
-use mq_stream::{Broken, Clock, ReadOutcome, Stream};
+use mq_stream::{Clock, ReadOutcome, Stream, StreamError};
 use mq_wire::Text;
 use std::alloc::{AllocError, Global};
 use std::test::Fail;
@@ -105,17 +105,17 @@ impl Stream for Script {
         }
     }
 
-    fn write_all(&mut self, bytes: &[u8]) -> Result<(), Broken> {
+    fn write_all(&mut self, bytes: &[u8]) -> Result<(), StreamError> {
         if bytes.is_empty() {
             return Ok(());
         }
         self.writes = self.writes.saturating_add(1);
         if self.writes == self.fails_at {
-            return Err(Broken);
+            return Err(StreamError);
         }
         match self.written.extend_from_slice(bytes) {
             Ok(()) => Ok(()),
-            Err(_) => Err(Broken),
+            Err(_) => Err(StreamError),
         }
     }
 }

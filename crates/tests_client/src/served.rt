@@ -7,7 +7,7 @@ use mq_client::{CollectGoal, NoSaver, Peer, Publications, collect, publish};
 use mq_decode::Limits;
 use mq_end::{Happening, Progress, ServerConfig, ServerEnd};
 use mq_packet::{Message, NonEmpty, PacketId, Payload, SubAckCode};
-use mq_stream::{Broken, ReadOutcome, Stream};
+use mq_stream::{ReadOutcome, Stream, StreamError};
 use mq_topic::{Qos, TopicFilter, TopicName};
 use std::alloc::Global;
 use std::process::Abort;
@@ -95,11 +95,11 @@ impl Stream for Served {
         ReadOutcome::Bytes(count)
     }
 
-    fn write_all(&mut self, bytes: &[u8]) -> Result<(), Broken> {
+    fn write_all(&mut self, bytes: &[u8]) -> Result<(), StreamError> {
         let progress = self.server.receive(0, bytes);
         match self.answer(&progress) {
             Some(()) => Ok(()),
-            None => Err(Broken),
+            None => Err(StreamError),
         }
     }
 }

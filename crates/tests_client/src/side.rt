@@ -6,7 +6,7 @@ use crate::script::{Steps, put};
 use mq_client::{Connection, Dial};
 use mq_decode::Limits;
 use mq_end::{Happening, ServerConfig, ServerEnd};
-use mq_stream::{Broken, ReadOutcome, Stream};
+use mq_stream::{ReadOutcome, Stream, StreamError};
 use std::alloc::Global;
 use std::cell::RefCell;
 use std::test::Fail;
@@ -43,13 +43,13 @@ impl Side {
     }
 
     // Receives bytes and remembers the payloads.
-    fn hear(&mut self, bytes: &[u8]) -> Result<(), Broken> {
+    fn hear(&mut self, bytes: &[u8]) -> Result<(), StreamError> {
         let progress = self.server.receive(0, bytes);
         for happening in progress.happenings.as_slice() {
             if let Happening::Handed(message) = happening {
                 let payload = message.payload.as_slice();
                 if self.handed.extend_from_slice(payload).is_err() {
-                    return Err(Broken);
+                    return Err(StreamError);
                 }
             }
         }
@@ -57,7 +57,7 @@ impl Side {
     }
 
     // Receives a write, or the part of it that is not lost.
-    fn take_in(&mut self, bytes: &[u8]) -> Result<(), Broken> {
+    fn take_in(&mut self, bytes: &[u8]) -> Result<(), StreamError> {
         if bytes.is_empty() {
             return Ok(());
         }
@@ -68,7 +68,7 @@ impl Side {
         let cut = self.cut.min(bytes.len());
         self.hear(&bytes[..cut])?;
         self.server.dropped();
-        Err(Broken)
+        Err(StreamError)
     }
 
     // Gives the pending output.
@@ -86,9 +86,9 @@ impl Side {
 pub(crate) struct Dialer<'a>(pub(crate) &'a RefCell<Side>);
 
 impl<'a> Dial<Wire<'a>, Steps> for Dialer<'a> {
-    fn dial(&mut self) -> Result<Connection<Wire<'a>, Steps>, Broken> {
+    fn dial(&mut self) -> Result<Connection<Wire<'a>, Steps>, StreamError> {
         let Ok(mut side) = self.0.try_borrow_mut() else {
-            return Err(Broken);
+            return Err(StreamError);
         };
         side.connections = side.connections.saturating_add(1);
         side.server.opened(0);
@@ -114,10 +114,10 @@ impl Stream for Wire<'_> {
         }
     }
 
-    fn write_all(&mut self, bytes: &[u8]) -> Result<(), Broken> {
+    fn write_all(&mut self, bytes: &[u8]) -> Result<(), StreamError> {
         match self.0.try_borrow_mut() {
             Ok(mut side) => side.take_in(bytes),
-            Err(_) => Err(Broken),
+            Err(_) => Err(StreamError),
         }
     }
 }

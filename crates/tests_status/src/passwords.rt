@@ -113,15 +113,27 @@ fn line_of(alloc: Global, name: &str, salt: &str, password: &[u8]) -> Result<Str
 fn lines(rt: HostRuntime) -> Result<(), Fail> {
     let rows = [
         ("b", "salt", HASHED),
-        ("", "salt", "the name can't stand in a file of passwords"),
-        ("#b", "salt", "the name can't stand in a file of passwords"),
-        ("a:b", "salt", "the name can't stand in a file of passwords"),
+        ("", "salt", "the name is not allowed in a file of passwords"),
+        (
+            "#b",
+            "salt",
+            "the name is not allowed in a file of passwords",
+        ),
+        (
+            "a:b",
+            "salt",
+            "the name is not allowed in a file of passwords",
+        ),
         (
             "a\nb",
             "salt",
-            "the name can't stand in a file of passwords",
+            "the name is not allowed in a file of passwords",
         ),
-        ("b", "sa:lt", "the salt can't stand in a file of passwords"),
+        (
+            "b",
+            "sa:lt",
+            "the salt is not allowed in a file of passwords",
+        ),
     ];
     for (name, salt, expected) in &rows {
         let line = line_of(rt.alloc(), *name, *salt, b"secret")?;

@@ -184,7 +184,7 @@ impl Default for Options<'_> {
     }
 }
 
-/// What a client reports.
+/// An event of a client.
 #[derive(Clone, Debug, PartialEq, Eq)]
 pub enum Event {
     /// The server accepted the connection.

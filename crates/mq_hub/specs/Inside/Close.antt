@@ -13,11 +13,11 @@ use Rattle.mq_route.specs.declared.connection_state.ConnectionState.{ConnectionS
 -- A close up to the publication of the client's will: the connection is closed, the session's end
 -- loses it, and the session ends with it if asked (3.1.2.4).
 unfoldable pub parts : Conn → HubClose → ℕ → Bool → Work → Work
-parts k why key clean w = remove_if clean key (with_sessions (with_end key (over (end_of key w.hub.sessions))) (said (acts.Closed k why) (shut k w)))
+parts conn why key clean work = remove_if clean key (with_sessions (with_end key (over (end_of key work.hub.sessions))) (said (acts.Closed conn why) (shut conn work)))
 
 -- a connection is closed, and its client's session stores this time as that of the disconnect
 abbrev pub close_at : ℕ → Conn → HubClose → Bool → Work → Work
-close_at now k why fits w = with_sessions (with_left (key_on (stage_of k w.hub.connections)) now) (shut_down k why fits w)
+close_at now conn why fits work = with_sessions (with_left (key_on (stage_of conn work.hub.connections)) now) (shut_down conn why fits work)
 
 -- the will to publish after that, if any (3.1.2.5, 3.14.4)
 abbrev pub will_left : HubClose → ConnectionState → Option Will

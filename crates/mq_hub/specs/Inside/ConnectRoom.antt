@@ -13,15 +13,15 @@ use Rattle.mq_tables.specs.Connecting.{connected_end, HasConnectRoomAt}
 
 -- there is a session of this key
 abbrev pub has_session : ℕ → List HubSession → Bool
-has_session key ss = list_any (λ s. s.key == key) ss
+has_session key sessions = list_any (λ session. session.key == key) sessions
 
 -- a session of this client with the next key, whose new end has processed this CONNECT (3.1.2.4)
-pub record IsNewSession (c : Connect) (client : List ℕ) (h : HubState) (t : BrokerSession) : Type 0 where
+pub record IsNewSession (connect : Connect) (client : List ℕ) (hub : HubState) (session : BrokerSession) : Type 0 where
   pub end : EndState
-  pub fresh : end.end ≡ new_end h.config
-  pub capacity : end.capacity ≡ h.config.capacity
-  pub limit : end.limit ≡ h.config.limits
-  pub after : t ≡ record { client = client; key = h.next_key; end = connected_end c h.clock end; left_at = h.clock }
+  pub fresh : end.end ≡ new_end hub.config
+  pub capacity : end.capacity ≡ hub.config.capacity
+  pub limit : end.limit ≡ hub.config.limits
+  pub after : session ≡ record { client = client; key = hub.next_key; end = connected_end connect hub.clock end; left_at = hub.clock }
 
 -- the message of a will, if any
 abbrev pub will_messages : Option Will → List Message
@@ -30,6 +30,7 @@ will_messages (Some will) = will_message will ∷ []
 
 -- The session of a client without connection, which had room for a CONNECT and these messages,
 -- still has room for the CONNECT.
-pub record KeepsConnectRoom (ms : List Message) (old new : HubTables) : Type 0 where
-  pub connect_end : (c : Connect) (key : ℕ) → old.connections.limits.packets.most < 2 ^ 28 → up_on key old.connections.connections ≡ None → HasConnectRoomAt c key ms 0 old.sessions.list
-      → HasConnectRoomAt c key [] 0 new.sessions.list
+pub record KeepsConnectRoom (messages : List Message) (old new : HubTables) : Type 0 where
+  pub connect_end : (connect : Connect) (key : ℕ) → old.connections.limits.packets.most < 2 ^ 28 → up_on key old.connections.connections ≡ None
+      → HasConnectRoomAt connect key messages 0 old.sessions.list
+      → HasConnectRoomAt connect key [] 0 new.sessions.list

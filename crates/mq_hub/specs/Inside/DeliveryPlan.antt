@@ -10,10 +10,10 @@ use Rattle.mq_hub.specs.declared.publish.delivery.DeliveryPlan.{DeliveryPlan}
 use Rattle.mq_hub.specs.Inside.Placement.{AreApart, AreReady}
 
 -- Each shared copy is the copy of a message for its granted quality of service (3.3.5, 3.8.4).
-pub record AreShared (m : Message) (s : SharedCopies) : Type 0 where
-  pub q0 : IfSome s.at_q0 (λ c. c ≡ copy Q0 false m)
-  pub q1 : IfSome s.at_q1 (λ c. c ≡ copy Q1 false m)
-  pub q2 : IfSome s.at_q2 (λ c. c ≡ copy Q2 false m)
+pub record AreShared (message : Message) (shared : SharedCopies) : Type 0 where
+  pub q0 : IfSome shared.at_q0 (λ made. made ≡ copy Q0 false message)
+  pub q1 : IfSome shared.at_q1 (λ made. made ≡ copy Q1 false message)
+  pub q2 : IfSome shared.at_q2 (λ made. made ≡ copy Q2 false message)
 
 -- The tables are the same, except for room.
 pub record AreTablesAlike (old new : HubTables) : Type 0 where
@@ -23,16 +23,16 @@ pub record AreTablesAlike (old new : HubTables) : Type 0 where
   pub connections : new.connections ≡ old.connections
 
 -- A plan: the message to retain under its own name, and at most one copy for each client.
-pub record IsPlanned (s : DeliveryPlan) : Type 0 where
-  pub named : IfSome s.kept (λ named. named.0 ≡ named.1.topic)
-  pub apart : AreApart s.copies.items
-  pub blank : s.acts.items ≡ []
+pub record IsPlanned (plan : DeliveryPlan) : Type 0 where
+  pub named : IfSome plan.kept (λ named. named.0 ≡ named.1.topic)
+  pub apart : AreApart plan.copies.items
+  pub blank : plan.acts.items ≡ []
 
 -- Tables and an act log with room for a plan, and for `more` bytes more in each session that gets a
 -- copy.
-pub record IsReserved (more : ℕ) (s : DeliveryPlan) (t : HubTables) (free : ℕ) : Type 0 where
-  pub named : IfSome s.kept (λ named. named.0 ≡ named.1.topic)
-  pub apart : AreApart s.copies.items
-  pub retained : 0 < t.retained.room
-  pub ready : AreReady more t.sessions.list s.copies.items
-  pub room : length s.acts.items < free
+pub record IsReserved (more : ℕ) (plan : DeliveryPlan) (tables : HubTables) (free : ℕ) : Type 0 where
+  pub named : IfSome plan.kept (λ named. named.0 ≡ named.1.topic)
+  pub apart : AreApart plan.copies.items
+  pub retained : 0 < tables.retained.room
+  pub ready : AreReady more tables.sessions.list plan.copies.items
+  pub room : length plan.acts.items < free

@@ -5,4 +5,4 @@ use Rattle.mq_route.specs.Hub.{HubConnection, up_on}
 
 -- none of these clients is connected
 abbrev pub AreAway : List ℕ → List HubConnection → Type 0
-AreAway keys xs = AllByRecursion (λ key. up_on key xs ≡ None) keys
+AreAway keys connections = AllByRecursion (λ key. up_on key connections ≡ None) keys

@@ -11,8 +11,8 @@ opened_at conn since = record { conn = conn; stage = AwaitingConnect; held = [];
 
 -- the broker with one more connection
 abbrev pub with_opened : HubConnection → HubState → HubState
-with_opened x hub = record hub { connections = hub.connections ++ x ∷ [] }
+with_opened connection hub = record hub { connections = hub.connections ++ connection ∷ [] }
 
 -- there is no pending output
 abbrev pub HaveNoOutput : List HubConnection → Type 0
-HaveNoOutput = AllByRecursion (λ x. x.waiting ≡ [])
+HaveNoOutput = AllByRecursion (λ connection. connection.waiting ≡ [])

@@ -6,13 +6,13 @@ use Rattle.mq_route.specs.Routed.{missed_by, placed_by, taken_by}
 
 -- an empty log
 abbrev pub IsBlank : ClientLog → Type 0
-IsBlank a = (a.taken ≡ []) × (a.placed ≡ []) × (a.missed ≡ [])
+IsBlank log = (log.taken ≡ []) × (log.placed ≡ []) × (log.missed ≡ [])
 
--- the log of client c after one more act
+-- the log of a client after one more act
 abbrev pub noted : Act → ℕ → ClientLog → ClientLog
-noted act c a = record { taken = a.taken ++ taken_by c act; placed = a.placed ++ placed_by c act; missed = a.missed ++ missed_by c act }
+noted act client log = record { taken = log.taken ++ taken_by client act; placed = log.placed ++ placed_by client act; missed = log.missed ++ missed_by client act }
 
 -- the logs of the clients from this key on after one more act
 abbrev pub all_noted : ℕ → Act → List ClientLog → List ClientLog
-all_noted c act [] = []
-all_noted c act (a ∷ more) = noted act c a ∷ all_noted (c + 1) act more
+all_noted client act [] = []
+all_noted client act (log ∷ more) = noted act client log ∷ all_noted (client + 1) act more

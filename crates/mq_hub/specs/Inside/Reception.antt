@@ -21,15 +21,15 @@ by_identifier true false = Handed
 -- The class of a PUBLISH agrees with the end's reply: it delivers the message, or reports nothing
 -- of it, or closes and sends nothing.
 abbrev pub IsReceived : Reception → Publication → End → Type 0
-IsReceived Handed p e =
-    ((server_gets (packets.Publish p) e).close ≡ None) × ((server_gets (packets.Publish p) e).happenings ≡ happens.Handed p.message ∷ [])
-IsReceived Duplicate p e = ((server_gets (packets.Publish p) e).close ≡ None) × ((server_gets (packets.Publish p) e).happenings ≡ [])
-IsReceived WindowFull p e = server_gets (packets.Publish p) e ≡ closes reasons.Window e
+IsReceived Handed publication end =
+    ((server_gets (packets.Publish publication) end).close ≡ None) × ((server_gets (packets.Publish publication) end).happenings ≡ happens.Handed publication.message ∷ [])
+IsReceived Duplicate publication end = ((server_gets (packets.Publish publication) end).close ≡ None) × ((server_gets (packets.Publish publication) end).happenings ≡ [])
+IsReceived WindowFull publication end = server_gets (packets.Publish publication) end ≡ closes reasons.Window end
 
 -- the session of a key exists, and its end is connected, with a receive window of this size
-pub record CanReceive (key : ℕ) (places : Option ℕ) (ts : List BrokerSession) : Type 0 where
+pub record CanReceive (key : ℕ) (places : Option ℕ) (sessions : List BrokerSession) : Type 0 where
   pub session : BrokerSession
-  pub there : session_at key ts ≡ Some session
+  pub there : session_at key sessions ≡ Some session
   pub up : is_up session.end.end.state ≡ true
   pub known : session.end.end.known ≡ true
   pub window : session.end.end.window ≡ places

@@ -26,10 +26,10 @@ use Rattle.mq_hub.specs.Inside.Invariant.{HubInvariant}
 -- a packet is not PUBLISH, SUBSCRIBE or UNSUBSCRIBE, so that a connected end reports no request of
 -- it
 abbrev pub RequestsNothing : Packet → Type 0
-RequestsNothing (packets.Publish p) = ⊥
-RequestsNothing (packets.Subscribe i requests) = ⊥
-RequestsNothing (packets.Unsubscribe i filters) = ⊥
-RequestsNothing p = Unit {0}
+RequestsNothing (packets.Publish packet) = ⊥
+RequestsNothing (packets.Subscribe identifier requests) = ⊥
+RequestsNothing (packets.Unsubscribe identifier filters) = ⊥
+RequestsNothing packet = Unit {0}
 
 -- The tables are the same, except for the room of their sessions.
 pub record AreAlike (old new : HubTables) : Type 0 where
@@ -56,7 +56,7 @@ pub record Subscribes (key : ℕ) (id : ℕ) (requests : List Request) (rules : 
   pub answers : Answers key (Grants id (granted requests)) (with_rows key requests old.rows) old between
   pub messages : List Message
   pub settles : (config : HubConfig) (next_key : ℕ) → rules_of config ≡ rules → HubInvariant config next_key between
-      → Settles config (λ k. 0) between.sessions.list (retained_copies key requests old.retained.messages) (for_key key messages) says
+      → Settles config (λ other. 0) between.sessions.list (retained_copies key requests old.retained.messages) (for_key key messages) says
   pub ready : IsReadyAt key messages 0 between.sessions.list
   pub list : new.sessions.list ≡ placed_all (for_key key messages) between.sessions.list
   pub rows : new.rows ≡ between.rows

@@ -9,11 +9,11 @@ use Rattle.mq_route.specs.declared.act.Act.TheVariants as acts
 -- the rows after it unsubscribes, filter by filter (3.10.4)
 abbrev pub without_rows : ℕ → List (List ℕ) → List Row → List Row
 without_rows key [] rows = rows
-without_rows key (f ∷ fs) rows = without_rows key fs (without_row key f rows)
+without_rows key (topic_filter ∷ rest) rows = without_rows key rest (without_row key topic_filter rows)
 
 -- the acts that report it
 abbrev pub subscribed_acts : ℕ → List Request → List Act
-subscribed_acts key rs = map (λ r. acts.Subscribed key r.filter r.qos) rs
+subscribed_acts key requests = map (λ request. acts.Subscribed key request.filter request.qos) requests
 
 abbrev pub unsubscribed_acts : ℕ → List (List ℕ) → List Act
-unsubscribed_acts key fs = map (λ f. acts.Unsubscribed key f) fs
+unsubscribed_acts key filters = map (λ topic_filter. acts.Unsubscribed key topic_filter) filters

@@ -15,17 +15,17 @@ use Rattle.mq_hub.specs.Inside.Refinement.{Refines}
 use Rattle.mq_hub.specs.Inside.View.{hub_of}
 
 -- These are the tables of a broker.
-pub record AreHubTables (t : HubTables) : Type 0 where
+pub record AreHubTables (tables : HubTables) : Type 0 where
   pub config : HubConfig
   pub next_key : ℕ
-  pub keeps : HubInvariant config next_key t
+  pub keeps : HubInvariant config next_key tables
 
 -- No connection changes, no client gets another session, and no reserved room for one is lost.
 pub record Spares (old new : HubTables) : Type 0 where
   pub keeps : (config : HubConfig) (next_key : ℕ) → HubInvariant config next_key old → HubInvariant config next_key new
   pub connections : new.connections ≡ old.connections
   pub room : old.sessions.room ≤ new.sessions.room
-  pub clients : (n : List ℕ) → key_of n (sessions_of new.sessions.list) ≡ key_of n (sessions_of old.sessions.list)
+  pub clients : (client : List ℕ) → key_of client (sessions_of new.sessions.list) ≡ key_of client (sessions_of old.sessions.list)
 
 -- The step makes a change, with memory for a will or without, in a broker with these rules for
 -- copies without room. A connection that waits for its CONNECT still does, and no reserved room for
@@ -36,4 +36,4 @@ pub record Proceeds (rules : CopyRules) (change : Bool → Work → Work) (old :
   pub keeps : (config : HubConfig) (next_key : ℕ) → HubInvariant config next_key old → HubInvariant config next_key new
   pub room : old.sessions.room ≤ new.sessions.room
   pub up_room : old.connections.up_room ≤ new.connections.up_room
-  pub fresh : (k : Conn) → stage_of k old.connections.connections ≡ AwaitingConnect → stage_of k new.connections.connections ≡ AwaitingConnect
+  pub fresh : (conn : Conn) → stage_of conn old.connections.connections ≡ AwaitingConnect → stage_of conn new.connections.connections ≡ AwaitingConnect

@@ -21,7 +21,7 @@ why_late Closed = Own reasons.KeepAlive
 -- the name of a connection and why it is closed, if it is late at this time
 abbrev pub late_of : Option ℕ → ℕ → Option HubConnection → Option (Conn × HubClose)
 late_of within now None = None
-late_of within now (Some x) = if is_late_on within now x.since x.stage then Some (x.conn, why_late x.stage) else None
+late_of within now (Some connection) = if is_late_on within now connection.since connection.stage then Some (connection.conn, why_late connection.stage) else None
 
 -- Closing the late connections leads from `start` to `new` with these acts.
 pub record TicksFrom (within : Option ℕ) (now : ℕ) (start : Work) (new : HubState) (acts : List Act) : Type 0 where

@@ -11,24 +11,24 @@ use Rattle.mq_tables.specs.Output.{output_of}
 
 -- the pending output of a connection: that of its session's end while it is connected, else its own
 abbrev pub waiting_by : ConnectionState → List BrokerSession → List ℕ → List ℕ
-waiting_by AwaitingConnect ts own = own
-waiting_by (ConnectedAs key terms last_activity) ts own = output_of key ts
-waiting_by Closed ts own = own
+waiting_by AwaitingConnect sessions own = own
+waiting_by (ConnectedAs key terms last_activity) sessions own = output_of key sessions
+waiting_by Closed sessions own = own
 
 abbrev pub seen : List BrokerSession → HubConnection → HubConnection
-seen ts x = record x { waiting = waiting_by x.stage ts x.waiting }
+seen sessions connection = record connection { waiting = waiting_by connection.stage sessions connection.waiting }
 
 abbrev pub all_seen : List BrokerSession → List HubConnection → List HubConnection
-all_seen ts xs = map (seen ts) xs
+all_seen sessions connections = map (seen sessions) connections
 
 -- the broker with these tables
 abbrev pub hub_of : HubConfig → ℕ → ℕ → HubTables → HubState
-hub_of config clock next_key t = record {
+hub_of config clock next_key tables = record {
   config = config;
   clock = clock;
   next_key = next_key;
-  rows = t.rows;
-  retained = t.retained.messages;
-  sessions = sessions_of t.sessions.list;
-  connections = all_seen t.sessions.list t.connections.connections;
+  rows = tables.rows;
+  retained = tables.retained.messages;
+  sessions = sessions_of tables.sessions.list;
+  connections = all_seen tables.sessions.list tables.connections.connections;
 }

@@ -13,7 +13,7 @@ use mq_topic::FilterStore;
 use std::alloc::AllocError;
 
 impl<S: FilterStore> HubOver<S> {
-    /// Closes an open connection on which malformed bytes came (4.8).
+    /// Closes an open connection on which malformed bytes arrived (4.8).
     pub(crate) fn on_malformed(
         &mut self,
         conn: Conn,

@@ -76,8 +76,8 @@ impl<S: FilterStore> HubOver<S> {
         }
     }
 
-    /// Takes the pending output of a connection without copying it. Fails if no memory is left for
-    /// the count of its owners.
+    /// Takes the pending output of a connection without copying it. Fails if the count of its
+    /// owners can't be allocated.
     pub(crate) fn on_collect(&mut self, conn: Conn) -> Result<HubReply, HubRefusal>
         requires { knows conn self.old.connections ≡ true }
         ensures step { IfOk result (λ reply. HubStep self.old (HubEvent.Collect conn) reply self.new) }

@@ -20,7 +20,7 @@ pub(crate) enum Next {
 }
 
 impl<S: FilterStore> HubOver<S> {
-    /// Records that a whole packet came now (3.1.2.10), and returns the key of the session for
+    /// Records that a whole packet arrived now (3.1.2.10), and returns the key of the session for
     /// which the connection is connected. The index is tried before a search.
     pub(crate) fn touch(&mut self, conn: Conn, place: usize) -> Option<ClientKey>
         ensures hub { self.new ≡ with_touched conn self.old }

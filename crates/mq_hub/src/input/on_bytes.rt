@@ -105,7 +105,7 @@ impl<S: FilterStore> HubOver<S> {
         decoder
     }
 
-    /// Handles all bytes that come on a connection (4.2), as [`HubOver::step_some`].
+    /// Handles all bytes that arrive on a connection (4.2), as [`HubOver::step_some`].
     pub(crate) fn on_bytes(&mut self, conn: Conn, piece: &[u8]) -> Result<HubReply, HubRefusal>
         requires { knows conn self.old.connections ≡ true }
         ensures step { IfOk result (λ reply. HubStep self.old (HubEvent.Bytes conn piece.now) reply self.new) }

@@ -105,7 +105,7 @@ impl<S: FilterStore> HubOver<S> {
 
     /// Returns the first time, in milliseconds, at which a `Tick` may close a connection because of
     /// its keep-alive (3.1.2.10), or because it sent no CONNECT (3.1), or remove a session
-    /// (3.1.2.4). `None` if no time can. The call looks at every session if
+    /// (3.1.2.4). `None` if there is no such time. The call looks at every session if
     /// [`HubConfig::session_expiry`](mq_route::HubConfig) is set.
     ///
     /// The result may be too early, because the connection that it is for has sent packets since or

@@ -22,7 +22,7 @@ use std::alloc::AllocError;
 const ACKNOWLEDGEMENT: usize = 7;
 
 impl<S: FilterStore> HubOver<S> {
-    // Takes a PUBLISH whose message is new: the publisher's end answers, and the message is
+    // Processes a PUBLISH whose message is new: the publisher's end answers, and the message is
     // delivered. If a session has no room for its copy (2.3.1), the copy is missed, or `false` is
     // returned, with nothing changed, as the configuration says.
     #[inline(always)]

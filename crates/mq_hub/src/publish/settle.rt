@@ -147,7 +147,7 @@ fn placed_for(alloc: Global, key: ClientKey, messages: &[Message]) -> Result<Vec
 }
 
 // Keeps a message for a connected client whose session has this room, or reports it as missed.
-// Returns what the session then has room for.
+// Returns the room that the session then has.
 fn settle_message(
     rules: CopyRules,
     key: ClientKey,

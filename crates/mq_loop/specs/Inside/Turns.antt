@@ -39,7 +39,7 @@ abbrev pub Below : List ℕ → List Turn → Type 0
 Below ages [] = Unit {0}
 Below ages (turn ∷ turns) = Each (λ age. age ≤ turn.age) ages × Below ages turns
 
--- The calls of the turns of a round up to now, before those that are left.
+-- The calls of the turns of a round up to now, before the remaining ones.
 pub record HeardSo (ages : Ages) (left : List Turn) (old new : Option (List Call)) : Type 0 where
   pub made : List Call
   pub calls : new ≡ with_calls old made

@@ -13,9 +13,9 @@ use Rattle.mq_route.specs.Step.{Does}
 
 -- every packet but PUBLISH and PUBREL, which carry the broker's own messages (4.3)
 abbrev pub is_answer : Packet → Bool
-is_answer (packets.Publish p) = false
-is_answer (packets.PubRel i) = false
-is_answer p = true
+is_answer (packets.Publish packet) = false
+is_answer (packets.PubRel identifier) = false
+is_answer packet = true
 
 -- the answers among the sent packets, on any connection
 abbrev pub answers_in : List (Conn × Packet) → List Packet

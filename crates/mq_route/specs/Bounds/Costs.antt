@@ -12,7 +12,7 @@ use Rattle.mq_end.specs.State.{EndState}
 -- the end reports that it is connected (3.2)
 abbrev pub is_rise : Happening → Bool
 is_rise (happens.Up session_present) = true
-is_rise h = false
+is_rise happening = false
 
 -- one of these reports says that the end is connected
 abbrev pub rises : List Happening → Bool
@@ -21,8 +21,8 @@ rises happenings = list_any is_rise happenings
 -- the sender's book with which a packet connects an end: a CONNECT with clean session 1 discards
 -- the book (3.1.2.4)
 abbrev pub book_for : Packet → SenderBook → SenderBook
-book_for (packets.Connect c) book = if c.clean_session then blank_book else book
-book_for p book = book
+book_for (packets.Connect connect) book = if connect.clean_session then blank_book else book
+book_for packet book = book
 
 -- the bytes that an end sends again when it connects with this book: a PUBREL for each released
 -- identifier and a PUBLISH for each message (4.4)
@@ -33,4 +33,4 @@ sent_again true book = encodings (resent book)
 -- the number of bytes that an end stores for its connection: pending output and an incomplete
 -- packet
 abbrev pub kept : EndState → ℕ
-kept s = length s.output + length s.held
+kept state = length state.output + length state.held

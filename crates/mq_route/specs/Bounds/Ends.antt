@@ -95,5 +95,5 @@ pub record BoundsLaws : Type 0 where
   pub client_takes : TakeBounds ClientTakes
   pub server_takes : TakeBounds TakesOne
   -- at most one packet for each identifier in use is sent again, each within the limit
-  pub again : (limit : ℕ) (book : SenderBook) → All (λ (x : Entry). length (fields (publish_packet x.id x.sent x.message)) ≤ limit) book.entries
+  pub again : (limit : ℕ) (book : SenderBook) → All (λ (entry : Entry). length (fields (publish_packet entry.id entry.sent entry.message)) ≤ limit) book.entries
       → length (encodings (resent book)) ≤ length (uses book) * (5 + limit)

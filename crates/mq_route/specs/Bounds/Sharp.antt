@@ -9,13 +9,15 @@ use Rattle.mq_route.specs.Bounds.Ends.{PacketBounds}
 
 -- a PUBLISH of QoS 2 that is sent again, with topic name `t` and an empty payload
 abbrev pub duplicate : ℕ → Packet
-duplicate i = packets.Publish (record {
+duplicate identifier = packets.Publish (record {
   message = record { topic = 116 ∷ []; payload = []; qos = Q2; retain = false };
-  delivery = Some (record { id = i; dup = true });
+  delivery = Some (record { id = identifier; dup = true });
 })
 
 pub record SharpLaws : Type 0 where
   -- two PUBCOMPs for a PUBREL (4.3.3)
-  pub pubrel_twice : (gets : Packet → End → Reply) (e f : End) (i : ℕ) → IsIdentifier i → gets (packets.PubRel i) e ≡ puts_out (packets.PubComp i ∷ packets.PubComp i ∷ []) f → PacketBounds gets → ⊥
+  pub pubrel_twice : (gets : Packet → End → Reply) (end later : End) (identifier : ℕ) → IsIdentifier identifier
+      → gets (packets.PubRel identifier) end ≡ puts_out (packets.PubComp identifier ∷ packets.PubComp identifier ∷ []) later → PacketBounds gets → ⊥
   -- two PUBRECs for a PUBLISH that is sent again (4.3.3)
-  pub pubrec_twice : (gets : Packet → End → Reply) (e f : End) (i : ℕ) → IsIdentifier i → gets (duplicate i) e ≡ puts_out (packets.PubRec i ∷ packets.PubRec i ∷ []) f → PacketBounds gets → ⊥
+  pub pubrec_twice : (gets : Packet → End → Reply) (end later : End) (identifier : ℕ) → IsIdentifier identifier
+      → gets (duplicate identifier) end ≡ puts_out (packets.PubRec identifier ∷ packets.PubRec identifier ∷ []) later → PacketBounds gets → ⊥

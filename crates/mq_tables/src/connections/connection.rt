@@ -21,7 +21,7 @@ pub struct Connection {
     pub stage: ConnectionState,
     /// The time at which it was opened, in milliseconds.
     pub since: u64,
-    /// Decodes the bytes that come, and holds the incomplete packet.
+    /// Decodes incoming bytes, and holds the incomplete packet.
     pub decoder: Decoder,
     /// Pending output while no client is connected. A connected client's output is in its session's
     /// end.
@@ -134,8 +134,8 @@ impl BoxedConnection {
         connection.stage = ConnectionState::ConnectedAs(key, terms, now);
     }
 
-    /// Whether the last packet came after this time. If not, a packet that comes now does not make
-    /// the connection late any sooner (3.1.2.10).
+    /// Whether the last packet arrived after this time. If not, a packet that arrives now does not
+    /// make the connection late any sooner (3.1.2.10).
     pub(crate) fn is_active_after(&self, now: u64) -> bool
         ensures { IsFalse result → (within : Option ℕ) (n : ℕ) → is_late_on within n self.now.since self.now.stage ≡ false
             → is_late_on within n self.now.since (touched now self.now.stage) ≡ false }

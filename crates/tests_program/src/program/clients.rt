@@ -1,4 +1,4 @@
-//! The words of the commands that open sockets.
+//! The arguments of the commands that open sockets.
 
 use mq_cli::{Collect, Command, Publish, Serve, Source, job};
 use mq_topic::Qos;

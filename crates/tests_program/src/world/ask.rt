@@ -1,4 +1,4 @@
-//! What there is in a world, as short texts.
+//! The contents of a world, as short texts.
 
 use crate::world::brief::{add_hex, told as told_of};
 use mq_topic::Qos;

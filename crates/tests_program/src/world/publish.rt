@@ -1,4 +1,4 @@
-//! What sides publish.
+//! The messages that sides publish.
 
 use crate::world::Act::{Look, Make};
 use crate::world::Row;

@@ -1,5 +1,5 @@
 use Rattle.std.proofs.Common.{length}
-use Rattle.mq_bytes.specs.Items.{AreItems}
+use Rattle.mq_bytes.specs.Inside.Items.{AreItems}
 use Rattle.mq_bytes.proofs.items.are_items.Given as goal
 
 abbrev pub invariant-loop-rest : goal.invariant-loop-rest

@@ -1,6 +1,6 @@
 use Rattle.std.proofs.Common.{◌≡◌, ℕ, ◌+◌, List, ◌++◌, length, arith}
 use Rattle.std.proofs.lemmas.List.{length-append}
-use Rattle.mq_bytes.specs.Connects.{counted_if}
+use Rattle.mq_bytes.specs.Inside.Connects.{counted_if}
 use Rattle.mq_bytes.proofs.Connecting.{connect_framed}
 use Rattle.mq_bytes.proofs.write_connect.encode_fields.Goals as goal
 

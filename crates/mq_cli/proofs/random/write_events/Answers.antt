@@ -1,5 +1,5 @@
 use Rattle.mq_cli.proofs.MadeUp.{all_written, one_written}
-use Rattle.mq_cli.specs.Random.{event_of}
+use Rattle.mq_cli.specs.Inside.Random.{event_of}
 use Rattle.mq_cli.proofs.random.write_events.Goals as goal
 
 pub loop-number-preserved : goal.loop-number-preserved

@@ -1,5 +1,5 @@
 use Rattle.std.proofs.Common.{ℕ, List, ap, ◌∙◌, arith}
-use Rattle.mq_decode.specs.Front.{fault_at, front_at}
+use Rattle.mq_decode.specs.Inside.Front.{fault_at, front_at}
 use Rattle.mq_decode.proofs.FrontLaws.{whole_again, faulty_again}
 use Rattle.mq_decode.proofs.FrontFound.{view_is, more_is, fault_is}
 use Rattle.mq_decode.proofs.Wanting.{pending_none}

@@ -1,6 +1,6 @@
 use Rattle.std.proofs.Common.{List, ℕ, Option, ap, subst, sym, ◌∙◌, arith}
 use Rattle.std.specs.Prelude.{IfSome}
-use Rattle.mq_decode.specs.Front.{header_at, len_told}
+use Rattle.mq_decode.specs.Inside.Front.{header_at, len_told}
 use Rattle.mq_decode.specs.Grammar.{HasHeader}
 use Rattle.mq_decode.proofs.FrontLaws.{told_len, told_is}
 use Rattle.mq_decode.proofs.FrontFound.{told_found}

@@ -4,7 +4,7 @@ use Rattle.mq_flow.specs.Receiver.{none_received}
 use Rattle.mq_route.specs.Routed.{placed, routed, settled, taken}
 use Rattle.mq_route.specs.Runs.{IsRun, came_in}
 use Rattle.mq_route.specs.Taken.{handed_from, of_client}
-use Rattle.mq_hub.specs.Run.{IsTraced, acts_in}
+use Rattle.mq_hub.specs.Run.{AreCollected, IsTraced, acts_in}
 use Rattle.mq_hub.proofs.RunLemmas.{pair_gives, run_is, run_routes, run_settles, run_takes}
 use Rattle.mq_hub.proofs.run.hub_run_over.Goals as goal
 
@@ -42,4 +42,13 @@ returns-clause-taken g c =
     IfOk-weaker c.pair_with.result (λ r. IsRun config events r.0 r.1)
     (λ r. (run : IsRun config events r.0 r.1) (k : ℕ) → taken k (acts_in r.1) ≡ handed_from none_received (of_client k (came_in run.episodes)))
     (λ r first run. run_takes config events r.0 r.1 run c.taking_laws.ensures)
+    (returns-clause-run g c)
+
+pub returns-clause-collected : goal.returns-clause-collected
+returns-clause-collected g c =
+    let config = c.args.config in
+    let events = c.args.events.now in
+    IfOk-weaker c.pair_with.result (λ r. IsRun config events r.0 r.1)
+    (λ r. (run : IsRun config events r.0 r.1) → AreCollected config run.episodes r.0)
+    (λ r first run before after hub _ left right. c.output_laws.ensures.written_is_put_out config before hub after r.0 left right)
     (returns-clause-run g c)

@@ -3,7 +3,7 @@ use Rattle.std.proofs.lemmas.List.{map-id}
 use Rattle.std.proofs.lemmas.Iterator.Adapters.{YieldsList-from_vec}
 use Rattle.std.proofs.lemmas.Iterator.Consumers.{YieldsList-end}
 use Rattle.mq_picture.specs.declared.entry.Entry.{Entry}
-use Rattle.mq_picture.specs.Lanes.{IsChart}
+use Rattle.mq_picture.specs.Inside.Lanes.{IsChart}
 use Rattle.mq_picture.proofs.Charts.{chart_draws}
 use Rattle.mq_picture.proofs.rows.rows_of.Goals as goal
 

@@ -1,4 +1,4 @@
-use Rattle.mq_picture.specs.Lanes.{IsChart}
+use Rattle.mq_picture.specs.Inside.Lanes.{IsChart}
 use Rattle.mq_picture.proofs.rows.rows_of.Given as goal
 
 abbrev pub invariant-loop-entry : goal.invariant-loop-entry

@@ -1,5 +1,5 @@
 use Rattle.std.proofs.Common.{◌≡◌, length}
-use Rattle.mq_serve.specs.Wakers.{after_acts}
+use Rattle.mq_serve.specs.Inside.Wakers.{after_acts}
 use Rattle.mq_serve.proofs.wakers.after_acts.Given as goal
 
 abbrev pub invariant-loop-rest : goal.invariant-loop-rest

@@ -1,4 +1,4 @@
-use Rattle.mq_serve.specs.Wakers.{must_wake}
+use Rattle.mq_serve.specs.Inside.Wakers.{must_wake}
 use Rattle.mq_serve.proofs.Callings.{called_next, skipped_next}
 use Rattle.mq_serve.proofs.wakers.call_noted.Goals as goal
 use Rattle.mq_serve.proofs.wakers.call_noted.Goals.{then-must_wake, else-must_wake}

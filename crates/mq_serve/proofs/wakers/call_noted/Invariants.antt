@@ -1,7 +1,7 @@
 use Rattle.std.proofs.Common.{take}
 use Rattle.std.specs.Io.KnownBytes.{Appends}
 use Rattle.mq_serve.specs.Calls.{numbers_from}
-use Rattle.mq_serve.specs.Wakers.{must_wake}
+use Rattle.mq_serve.specs.Inside.Wakers.{must_wake}
 use Rattle.mq_serve.proofs.wakers.call_noted.Given as goal
 
 abbrev pub invariant-loop-number : goal.invariant-loop-number

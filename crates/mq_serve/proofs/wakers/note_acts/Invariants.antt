@@ -1,5 +1,5 @@
 use Rattle.std.proofs.Common.{◌≡◌, ◌<◌, ◌≤◌, ℕ, get_or}
-use Rattle.mq_serve.specs.Wakers.{after_acts, uncalled, vacant}
+use Rattle.mq_serve.specs.Inside.Wakers.{after_acts, uncalled, vacant}
 use Rattle.mq_serve.proofs.wakers.note_acts.Given as goal
 
 abbrev pub invariant-loop-number : goal.invariant-loop-number

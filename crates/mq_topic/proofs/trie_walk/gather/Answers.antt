@@ -1,5 +1,5 @@
 use Rattle.std.proofs.Common.{◌≡◌, Some, None, sym, ◌∙◌}
-use Rattle.mq_topic.specs.Found.{IsAt}
+use Rattle.mq_topic.specs.Inside.Found.{IsAt}
 use Rattle.mq_topic.specs.NodeView.{client_in}
 use Rattle.mq_topic.specs.TrieView.{tree}
 use Rattle.mq_topic.proofs.Gathering.{gathers_nothing, gathers_same}

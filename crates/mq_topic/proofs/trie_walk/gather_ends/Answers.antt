@@ -1,5 +1,5 @@
 use Rattle.std.proofs.Common.{arith}
-use Rattle.mq_topic.specs.Found.{IsAt}
+use Rattle.mq_topic.specs.Inside.Found.{IsAt}
 use Rattle.mq_topic.specs.TrieView.{tree}
 use Rattle.mq_topic.proofs.Gathering.{gather_done, gather_more}
 use Rattle.mq_topic.proofs.trie_walk.gather_ends.Goals as goal

@@ -1,5 +1,5 @@
 use Rattle.std.proofs.Common.{◌∷◌, [], arith, subst}
-use Rattle.mq_topic.specs.Found.{Gathers, IsAt}
+use Rattle.mq_topic.specs.Inside.Found.{Gathers, IsAt}
 use Rattle.mq_topic.specs.TrieView.{child_of, tree}
 use Rattle.mq_topic.proofs.Gathering.{gather_done, gather_more}
 use Rattle.mq_topic.proofs.trie_walk.gather_rests.Goals as goal

@@ -1,5 +1,5 @@
 use Rattle.std.proofs.Common.{take, ◌∷◌, []}
-use Rattle.mq_topic.specs.Found.{Among, Gathers, IsAt}
+use Rattle.mq_topic.specs.Inside.Found.{Among, Gathers, IsAt}
 use Rattle.mq_topic.specs.TrieView.{child_of, tree}
 use Rattle.mq_topic.proofs.trie_walk.gather_rests.Given as goal
 

@@ -1,5 +1,5 @@
 use Rattle.std.proofs.Common.{sym, ap, subst, ◌∙◌}
-use Rattle.mq_topic.specs.Found.{Entries, Gathers}
+use Rattle.mq_topic.specs.Inside.Found.{Entries, Gathers}
 use Rattle.mq_topic.specs.Matching.{levels_left}
 use Rattle.mq_topic.specs.TrieView.{tree}
 use Rattle.mq_topic.proofs.Searching.{Matches, search_absent, search_first, search_shown}

@@ -1,5 +1,5 @@
 use Rattle.std.proofs.Common.{◌⊎◌, sym, arith, subst, ◌↔◌}
-use Rattle.mq_topic.specs.Found.{Among, IsThere, Steps}
+use Rattle.mq_topic.specs.Inside.Found.{Among, IsThere, Steps}
 use Rattle.mq_topic.specs.TrieView.{tree}
 use Rattle.mq_topic.proofs.Gathering.{Holds, all_taken, step_more}
 use Rattle.mq_topic.proofs.trie_walk.step.Goals as goal

@@ -1,5 +1,5 @@
 use Rattle.std.proofs.Common.{◌≡◌, ◌↔◌, Option, take}
-use Rattle.mq_topic.specs.Found.{Among, Steps}
+use Rattle.mq_topic.specs.Inside.Found.{Among, Steps}
 use Rattle.mq_topic.specs.TrieView.{tree}
 use Rattle.mq_topic.specs.declared.trie_nodes.NodeId.{NodeId}
 use Rattle.mq_topic.proofs.trie_walk.step.Given as goal

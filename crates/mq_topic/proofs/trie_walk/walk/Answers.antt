@@ -1,5 +1,5 @@
 use Rattle.std.proofs.Common.{◌∷◌, [], ap, subst, ◌∙◌}
-use Rattle.mq_topic.specs.Found.{Finds}
+use Rattle.mq_topic.specs.Inside.Found.{Finds}
 use Rattle.mq_topic.specs.Matching.{levels_left}
 use Rattle.mq_topic.specs.TrieView.{tree}
 use Rattle.mq_topic.proofs.Outcomes.{when_ok}

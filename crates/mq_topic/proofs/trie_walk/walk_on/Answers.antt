@@ -1,7 +1,7 @@
 use Rattle.std.proofs.Common.{◌≡◌, ◌∷◌, [], ℕ, List, Option, sym, ap, subst, ◌∙◌, ◌↔◌, arith, eqb-true}
 use Rattle.std.specs.Vec.{vec_len}
 use Rattle.std.proofs.lemmas.List.{nil_from_length}
-use Rattle.mq_topic.specs.Found.{Among, Finds, Gathers, IsAt, Steps}
+use Rattle.mq_topic.specs.Inside.Found.{Among, Finds, Gathers, IsAt, Steps}
 use Rattle.mq_topic.specs.Matching.{levels_left}
 use Rattle.mq_topic.specs.Tree.{Tree}
 use Rattle.mq_topic.specs.TrieView.{child_of, tree}

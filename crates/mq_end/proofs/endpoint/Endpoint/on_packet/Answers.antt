@@ -1,6 +1,5 @@
 use Rattle.std.proofs.Common.{◌∙◌}
-use Rattle.mq_end.specs.Server.{server_gets}
-use Rattle.mq_end.specs.Receiving.{heard_as}
+use Rattle.mq_end.specs.Receiving.{gets_as, heard_as}
 use Rattle.mq_end.proofs.OnePacket.{arrived, shows_one}
 use Rattle.mq_end.proofs.endpoint.Endpoint.on_packet.Goals as goal
 
@@ -11,10 +10,10 @@ returns-clause-open c = λ live.
     c.take_or_close-closed.ensures.made c.is_none.ensures c.hear.ensures c.new-told.ensures.happenings c.new-told.ensures.acknowledged told.ensures.happenings told.ensures.acknowledged told.ensures.closed
 
 pub returns-clause-within : goal.returns-clause-within
-returns-clause-within c = λ server up once fits.
+returns-clause-within c = λ up once fits.
     let took = c.take_or_close-closed in
     let none = c.new-told in
     let told = c.into_progress-2 in
-    let does = took.ensures.within server up once fits none.ensures.happening_room none.ensures.acknowledged_room in
-    shows_one (server_gets c.args.packet c.args.self.now.end) (heard_as c.args.role c.is_none.result c.args.now took.new.self.last_activity) c.args.self.now took.new.self c.hear.new.self none.result took.new.told told.result.happenings told.result.acknowledged told.result.closed
+    let does = took.ensures.within up once fits none.ensures.happening_room none.ensures.acknowledged_room in
+    shows_one (gets_as c.args.role c.args.packet c.args.self.now.end) (heard_as c.args.role c.is_none.result c.args.now took.new.self.last_activity) c.args.self.now took.new.self c.hear.new.self none.result took.new.told told.result.happenings told.result.acknowledged told.result.closed
     does.1 c.hear.ensures none.ensures.happenings none.ensures.acknowledged told.ensures.happenings told.ensures.acknowledged (told.ensures.closed ∙ does.0)

@@ -3,7 +3,7 @@ use Rattle.mq_topic.specs.declared.qos.Qos.{Qos}
 use Rattle.mq_topic.specs.declared.qos.Qos.TheVariants.{Q1, Q2}
 use Rattle.mq_packet.specs.declared.publish.Delivery.{Delivery}
 use Rattle.mq_end.specs.Both.{publish_gets}
-use Rattle.mq_end.specs.Ready.{FitsRoom}
+use Rattle.mq_end.specs.Ready.{CanSend}
 use Rattle.mq_end.proofs.Handings.{by_delivery}
 use Rattle.mq_end.proofs.endpoint.Endpoint.take_delivery.Goals as goal
 
@@ -15,8 +15,8 @@ returns-in-Q1-Some-clause-ok c =
 pub returns-in-Q1-Some-clause-within : goal.returns-in-Q1-Some-clause-within
 returns-in-Q1-Some-clause-within c = λ plain m fits.
     c.take_at_least_once.ensures.within m
-    (subst (λ (d : Option Delivery). FitsRoom (publish_gets Q1 d m c.args.self.now.end).out c.args.self.now) c.in-Q1-Some.is-1
-    (subst (λ (q : Qos). FitsRoom (publish_gets q c.args.delivery m c.args.self.now.end).out c.args.self.now) c.in-Q1-Some.is-0 fits))
+    (subst (λ (d : Option Delivery). CanSend (publish_gets Q1 d m c.args.self.now.end).out c.args.self.now) c.in-Q1-Some.is-1
+    (subst (λ (q : Qos). CanSend (publish_gets q c.args.delivery m c.args.self.now.end).out c.args.self.now) c.in-Q1-Some.is-0 fits))
 
 pub returns-in-Q2-Some-clause-ok : goal.returns-in-Q2-Some-clause-ok
 returns-in-Q2-Some-clause-ok c =

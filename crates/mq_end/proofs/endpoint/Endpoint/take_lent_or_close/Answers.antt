@@ -6,11 +6,14 @@ use Rattle.mq_end.specs.Receiving.{gets_as}
 use Rattle.mq_end.proofs.Along.{closes_stays}
 use Rattle.mq_end.proofs.endpoint.Endpoint.take_lent_or_close.Goals as goal
 
-pub returns-in-Ok : goal.returns-in-Ok
-returns-in-Ok c = (gets_as c.args.role (packet_of c.args.view.now) c.args.self.now.end, inl refl, c.in-Ok.ensures.closed, c.in-Ok.ensures.ok)
+pub returns-in-Ok-clause-made : goal.returns-in-Ok-clause-made
+returns-in-Ok-clause-made c = (gets_as c.args.role (packet_of c.args.view.now) c.args.self.now.end, inl refl, c.in-Ok.ensures.closed, c.in-Ok.ensures.ok)
 
-pub returns-in-Err : goal.returns-in-Err
-returns-in-Err c =
+pub returns-in-Ok-clause-within : goal.returns-in-Ok-clause-within
+returns-in-Ok-clause-within c = λ up plain fits happenings acknowledged. (c.in-Ok.ensures.closed, c.in-Ok.ensures.ok)
+
+pub returns-in-Err-clause-made : goal.returns-in-Err-clause-made
+returns-in-Err-clause-made c =
     let old = c.args.self.now in (
       closes reasons.Memory old.end,
       inr refl,

@@ -21,4 +21,4 @@ returns-in-Whole-clause-packet c =
     let front = c.in-Whole.ensures.front in
     let reads = subst (λ (l : Bounds). ReadsWithin l p (take n piece)) limit front.1 in
     came_next c.args.role piece n c.take_lent_or_close.result old old c.take_lent_or_close.new.self c.args.told.now c.take_lent_or_close.new.told p
-    front.0 (subst (λ (h : List ℕ). ReadsWithin old.limit p (h ++ take n piece)) (sym none) reads) refl none c.take_lent_or_close.ensures
+    front.0 (subst (λ (h : List ℕ). ReadsWithin old.limit p (h ++ take n piece)) (sym none) reads) refl none c.take_lent_or_close.ensures.made

@@ -1,8 +1,7 @@
-use Rattle.std.proofs.Common.{◌≡◌, Some, inl, inr, refl, ap, subst}
+use Rattle.std.proofs.Common.{Some, inl, inr, refl, ap}
 use Rattle.mq_end.specs.declared.reason.CloseReason.TheVariants as reasons
-use Rattle.mq_end.specs.declared.role.Role.{Role}
 use Rattle.mq_end.specs.End.{closes}
-use Rattle.mq_end.specs.Receiving.{Makes, gets_as}
+use Rattle.mq_end.specs.Receiving.{gets_as}
 use Rattle.mq_end.proofs.Along.{closes_stays}
 use Rattle.mq_end.proofs.endpoint.Endpoint.take_or_close.Goals as goal
 
@@ -10,12 +9,7 @@ pub returns-in-Ok-clause-made : goal.returns-in-Ok-clause-made
 returns-in-Ok-clause-made c = (gets_as c.args.role c.args.packet c.args.self.now.end, inl refl, c.in-Ok.ensures.closed, c.in-Ok.ensures.ok)
 
 pub returns-in-Ok-clause-within : goal.returns-in-Ok-clause-within
-returns-in-Ok-clause-within c = λ server up once fits happenings acknowledged.
-    let old = c.args.self.now in
-    let took = c.take in (
-      subst (λ (r : Role). c.in-Ok.closed ≡ (gets_as r c.args.packet old.end).close) server c.in-Ok.ensures.closed,
-      subst (λ (r : Role). Makes (gets_as r c.args.packet old.end) old took.new.self c.args.told.now took.new.told) server c.in-Ok.ensures.ok,
-    )
+returns-in-Ok-clause-within c = λ up once fits happenings acknowledged. (c.in-Ok.ensures.closed, c.in-Ok.ensures.ok)
 
 pub returns-in-Err-clause-made : goal.returns-in-Err-clause-made
 returns-in-Err-clause-made c =

@@ -1,8 +1,8 @@
-use Rattle.std.proofs.Common.{◌≡◌, ◌+◌, ℕ, List, true, false, refl, subst}
+use Rattle.std.proofs.Common.{◌≡◌, ◌+◌, ℕ, List, true, false, subst}
 use Rattle.mq_packet.specs.declared.message.Message.{Message}
 use Rattle.mq_end.specs.End.{is_live, is_up}
 use Rattle.mq_end.specs.Server.{server_gets}
-use Rattle.mq_end.specs.Ready.{FitsRoom, HasRoom, is_exactly_once, packets_size}
+use Rattle.mq_end.specs.Ready.{CanSend, HasRoom, is_exactly_once, packets_size}
 use Rattle.mq_end.specs.State.{EndState}
 use Rattle.mq_end.specs.Receiving.{Shows, TakesOne}
 use Rattle.mq_end.proofs.Rooms.{taken_room, up_is_live}
@@ -24,5 +24,5 @@ returns-clause-kept c =
 pub returns-clause-within : goal.returns-clause-within
 returns-clause-within c =
     let told = c.on_packet.result in
-    subst (λ (l : EndState). is_up l.end.state ≡ true → is_exactly_once c.args.packet ≡ false → FitsRoom (server_gets c.args.packet l.end).out l → Shows (server_gets c.args.packet l.end) l c.on_packet.new.self told.happenings told.acknowledged told.closed) c.self.view_is
-    (c.on_packet.ensures.within refl)
+    subst (λ (l : EndState). is_up l.end.state ≡ true → is_exactly_once c.args.packet ≡ false → CanSend (server_gets c.args.packet l.end).out l → Shows (server_gets c.args.packet l.end) l c.on_packet.new.self told.happenings told.acknowledged told.closed) c.self.view_is
+    c.on_packet.ensures.within

@@ -7,6 +7,7 @@ use Rattle.mq_end.specs.Server.{server_gets}
 use Rattle.mq_end.specs.Ready.{CanRise, FitsRoom, HasRise, HasRoom, is_exactly_once, packets_size}
 use Rattle.mq_end.specs.State.{EndState}
 use Rattle.mq_end.specs.Receiving.{TakesPacket}
+use Rattle.mq_end.proofs.Rooms.{fits_sends}
 use Rattle.mq_end.proofs.Rises.{packet_room, rises_room}
 use Rattle.mq_end.proofs.server.ServerEnd.take_packet.Goals as goal
 
@@ -18,7 +19,8 @@ returns-clause-open c =
 pub returns-clause-within : goal.returns-clause-within
 returns-clause-within c =
     let took = c.take_packet in
-    subst (λ (l : EndState). is_up l.end.state ≡ true → is_exactly_once c.args.packet ≡ false → FitsRoom (server_gets c.args.packet l.end).out l → IsOk took.result) c.self.view_is took.ensures.up
+    subst (λ (l : EndState). is_up l.end.state ≡ true → is_exactly_once c.args.packet ≡ false → FitsRoom (server_gets c.args.packet l.end).out l → IsOk took.result) c.self.view_is
+    (λ up once fits. took.ensures.up up once (fits_sends (server_gets c.args.packet c.self.inside.link.end).out c.self.inside.link fits))
 
 pub returns-clause-kept : goal.returns-clause-kept
 returns-clause-kept c =

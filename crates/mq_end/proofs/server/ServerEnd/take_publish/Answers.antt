@@ -9,6 +9,7 @@ use Rattle.mq_end.specs.Server.{server_gets}
 use Rattle.mq_end.specs.Ready.{FitsRoom, HasRoom, packets_size}
 use Rattle.mq_end.specs.State.{EndState}
 use Rattle.mq_end.specs.Receiving.{TakesPacket, outcome_of}
+use Rattle.mq_end.proofs.Rooms.{fits_sends}
 use Rattle.mq_end.proofs.Rises.{publish_room}
 use Rattle.mq_end.proofs.server.ServerEnd.take_publish.Goals as goal
 
@@ -24,7 +25,8 @@ returns-clause-within c =
     let took = c.take_publish_of in
     let m = c.args.message.now in
     let p : Packet = packets.Publish (record { message = m; delivery = c.args.delivery }) in
-    subst (λ (l : EndState). is_up l.end.state ≡ true → same_qos Q2 m.qos ≡ false → FitsRoom (server_gets p l.end).out l → IsOk took.result) c.self.view_is took.ensures.up
+    subst (λ (l : EndState). is_up l.end.state ≡ true → same_qos Q2 m.qos ≡ false → FitsRoom (server_gets p l.end).out l → IsOk took.result) c.self.view_is
+    (λ up once fits. took.ensures.up up once (fits_sends (server_gets p c.self.inside.link.end).out c.self.inside.link fits))
 
 pub returns-clause-kept : goal.returns-clause-kept
 returns-clause-kept c =

@@ -1,5 +1,5 @@
 use Rattle.std.proofs.Common.{◌-◌, ◌≤◌}
-use Rattle.mq_picture.specs.Lanes.{Ends}
+use Rattle.mq_picture.specs.Inside.Lanes.{Ends}
 use Rattle.mq_picture.proofs.rows.Lane.arrive.Given as goal
 
 abbrev pub invariant-packets : goal.invariant-packets

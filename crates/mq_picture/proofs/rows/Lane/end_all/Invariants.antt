@@ -1,5 +1,5 @@
 use Rattle.std.proofs.Common.{length}
-use Rattle.mq_picture.specs.Lanes.{Ends}
+use Rattle.mq_picture.specs.Inside.Lanes.{Ends}
 use Rattle.mq_picture.proofs.rows.Lane.end_all.Given as goal
 
 abbrev pub invariant-packets : goal.invariant-packets

@@ -1,5 +1,5 @@
 use Rattle.std.proofs.Common.{[], sym, subst, ◌∙◌}
-use Rattle.mq_topic.specs.Found.{Entries, Gathers}
+use Rattle.mq_topic.specs.Inside.Found.{Entries, Gathers}
 use Rattle.mq_topic.specs.Rows.{IsMatched, matched, row_qos}
 use Rattle.mq_topic.proofs.Answering.{answered}
 use Rattle.mq_topic.proofs.Greatest.{matched-is, matched-once}

@@ -2,7 +2,7 @@ use Rattle.std.proofs.Common.{◌≡◌, ◌<◌, false, length, ap, ◌∙◌, 
 use Rattle.std.proofs.lemmas.List.{length-take}
 use Rattle.mq_wire.proofs.Lengths.{value_is}
 use Rattle.mq_wire.specs.Steps.{Coming}
-use Rattle.mq_wire.specs.Value.{value_of}
+use Rattle.mq_wire.specs.Inside.Value.{value_of}
 use Rattle.mq_wire.proofs.length.VarlenReader.push.Goals as goal
 use Rattle.mq_wire.proofs.length.VarlenReader.push.Goals.{else-byte-eq0-via-then-byte-eq0+then-self-gt1+else-not-self, else-byte-eq0-via-then-byte-eq0+else-self-gt1, else-byte-eq0-via-else-byte-eq0}
 

@@ -9,8 +9,8 @@ use Rattle.mq_bytes.specs.Arguments.{IsLoginOf, IsWillOf}
 
 -- Two bytes with the size, and the bytes; or nothing.
 abbrev pub counted_if : Bool → List ℕ → List ℕ
-counted_if false x = []
-counted_if true x = counted x
+counted_if false bytes = []
+counted_if true bytes = counted bytes
 
 -- There is a valid will with these parts, or none, and these are its flags.
 pub record WillWith (there : Bool) (topic message : List ℕ) (qos : ℕ) (retain : Bool) (flags : ℕ) : Type 0 where
@@ -22,7 +22,7 @@ pub record WillWith (there : Bool) (topic message : List ℕ) (qos : ℕ) (retai
 
 abbrev pub NoWill : Bool → List ℕ → List ℕ → ℕ → Bool → Type 0
 NoWill there topic message qos retain =
-    (w : Option Will) → IsWillOf there topic message qos retain w → IfSome w IsWill → ⊥
+    (will : Option Will) → IsWillOf there topic message qos retain will → IfSome will IsWill → ⊥
 
 -- There are a valid user name and password, or not, and these are their flags.
 pub record LoginWith (there : Bool) (name : List ℕ) (has_password : Bool) (password : List ℕ) (flags : ℕ) : Type 0 where
@@ -34,4 +34,4 @@ pub record LoginWith (there : Bool) (name : List ℕ) (has_password : Bool) (pas
 
 abbrev pub NoLogin : Bool → List ℕ → Bool → List ℕ → Type 0
 NoLogin there name has_password password =
-    (l : Option Login) → IsLoginOf there name has_password password l → IfSome l IsLogin → ⊥
+    (login : Option Login) → IsLoginOf there name has_password password login → IfSome login IsLogin → ⊥

@@ -5,11 +5,11 @@ use Rattle.mq_loopback.specs.declared.start_barrier.Waiting.{Waiting}
 
 -- publishers wait: some collector is not subscribed yet, and no client has a fault
 abbrev pub IsPending : Waiting → Type 0
-IsPending w = (0 < w.left) × (w.fault ≡ None)
+IsPending waiting = (0 < waiting.left) × (waiting.fault ≡ None)
 
 -- publishers may start: all collectors are subscribed, and no client has a fault
 abbrev pub may_start : Waiting → Bool
-may_start w = (w.left == 0) && not (is_some w.fault)
+may_start waiting = (waiting.left == 0) && not (is_some waiting.fault)
 
 -- the first fault stays
 abbrev pub first_fault : Option ClientError → ClientError → Option ClientError

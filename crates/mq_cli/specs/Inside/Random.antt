@@ -10,13 +10,13 @@ use Rattle.mq_cli.specs.declared.random.Made.TheVariants.{Publish, Deliver, Drop
 
 -- the event of this number
 abbrev pub event_of : Made → ℕ → Event
-event_of (Publish side qos) n = events.Publish side (made_message qos n)
-event_of (Deliver side count) n = events.Deliver side count
-event_of (Drop side) n = events.Drop side
-event_of Leave n = events.Leave
-event_of Open n = events.Open
-event_of (Tick side more) n = events.Tick side more
+event_of (Publish side qos) number = events.Publish side (made_message qos number)
+event_of (Deliver side count) number = events.Deliver side count
+event_of (Drop side) number = events.Drop side
+event_of Leave number = events.Leave
+event_of Open number = events.Open
+event_of (Tick side more) number = events.Tick side more
 
 -- its line in a schedule
 abbrev pub event_line : Made → ℕ → List ℕ
-event_line made n = step_line (steps.Event (event_of made n))
+event_line made number = step_line (steps.Event (event_of made number))

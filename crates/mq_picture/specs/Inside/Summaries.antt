@@ -26,12 +26,12 @@ kind_of packets.Disconnect = kinds.Disconnect
 -- the packet identifier of a PUBLISH, if it has one
 abbrev pub delivery_id : Option Delivery → Option ℕ
 delivery_id None = None
-delivery_id (Some d) = Some d.id
+delivery_id (Some delivery) = Some delivery.id
 
 -- whether a PUBLISH may have come before (3.3.1.1)
 abbrev pub delivery_dup : Option Delivery → Bool
 delivery_dup None = false
-delivery_dup (Some d) = d.dup
+delivery_dup (Some delivery) = delivery.dup
 
 -- The packet identifier (2.3.1).
 abbrev pub packet_id : Packet → Option ℕ

@@ -12,14 +12,14 @@ use Rattle.mq_bytes.specs.declared.items.ItemKind.TheVariants as kinds
 
 -- An encoded item.
 abbrev pub IsItem : ItemKind → List ℕ → Type 0
-IsItem kinds.Request b = (r : Request) × IsRequest r × (b ≡ request_fields r)
-IsItem kinds.Code b = (c : SubAckCode) × (b ≡ code_fields c)
-IsItem kinds.Filter b = (f : List ℕ) × IsTopicFilter f × (b ≡ counted f)
+IsItem kinds.Request bytes = (request : Request) × IsRequest request × (bytes ≡ request_fields request)
+IsItem kinds.Code bytes = (code : SubAckCode) × (bytes ≡ code_fields code)
+IsItem kinds.Filter bytes = (filter : List ℕ) × IsTopicFilter filter × (bytes ≡ counted filter)
 
 -- Encoded items, one behind the other.
 abbrev pub AreItems : ItemKind → List ℕ → Type 0
-AreItems kind b =
-    (items : List (List ℕ)) × AllByRecursion (IsItem kind) items × (flat_map (λ x. x) items ≡ b)
+AreItems kind bytes =
+    (items : List (List ℕ)) × AllByRecursion (IsItem kind) items × (flat_map (λ item. item) items ≡ bytes)
 
 -- The packet type and the first byte of the packet with such a list (2.2.1, 2.2.2).
 abbrev pub kind_number : ItemKind → ℕ

@@ -23,7 +23,7 @@ sized None kind len size = Ok (Some (record { kind = kind; start = 1 + len; size
 sized (Some fault) kind len size = Err (fault_at fault 1)
 
 abbrev pub header_of : Bounds → Kind → LengthReading → Result (Option Header) DecodeFault
-header_of limits kind (Whole n len) = sized (size_fault limits.most kind n) kind len n
+header_of limits kind (Whole size len) = sized (size_fault limits.most kind size) kind len size
 header_of limits kind Unfinished = Ok None
 header_of limits kind TooLong = Err (fault_at LengthTooLong 4)
 header_of limits kind (Overlong len) = Err (fault_at LengthOverlong len)
@@ -39,13 +39,13 @@ header_at limits (first ∷ rest) = header_after limits (kind_at first) rest
 
 -- how many bytes the packet takes, as the header says
 abbrev pub len_told : Result (Option Header) DecodeFault → Option ℕ
-len_told (Ok (Some h)) = Some (h.start + h.size)
+len_told (Ok (Some header)) = Some (header.start + header.size)
 len_told (Ok None) = None
 len_told (Err fault) = None
 
 -- The end of the packet as its header states it, or the fault of the header.
 abbrev pub end_told : Result (Option Header) DecodeFault → Result (Option ℕ) DecodeFault
-end_told (Ok (Some h)) = Ok (Some (h.start + h.size))
+end_told (Ok (Some header)) = Ok (Some (header.start + header.size))
 end_told (Ok None) = Ok None
 end_told (Err fault) = Err fault
 
@@ -57,7 +57,9 @@ packet_or_fault end (Err bad) = Err (fault_at bad.kind (end - bad.left))
 abbrev pub front_after : Result (Option Header) DecodeFault → List ℕ → Result (Option (Packet × ℕ)) DecodeFault
 front_after (Err fault) bytes = Err fault
 front_after (Ok None) bytes = Ok None
-front_after (Ok (Some h)) bytes = if nat_lt (length bytes) (h.start + h.size) then Ok None else packet_or_fault (h.start + h.size) (body_at h.kind (take h.size (drop h.start bytes)))
+front_after (Ok (Some header)) bytes =
+    if nat_lt (length bytes) (header.start + header.size) then Ok None else
+    packet_or_fault (header.start + header.size) (body_at header.kind (take header.size (drop header.start bytes)))
 
 -- The packet at the front with its size, nothing if it is incomplete, or its first fault.
 unfoldable pub front_at : Bounds → List ℕ → Result (Option (Packet × ℕ)) DecodeFault

@@ -17,7 +17,7 @@ other Server = Client
 
 -- the packets that wait for their arrows
 abbrev pub waiting : Lane → List Summary
-waiting lane = map (λ f. f.packet) lane.packets.items
+waiting lane = map (λ flying. flying.packet) lane.packets.items
 
 -- the size of the first packet, if there is one, is at most this number
 abbrev pub FirstFits : List Flying → ℕ → Type 0

@@ -13,21 +13,21 @@ use Rattle.mq_end.specs.Server.{refuses}
 -- The CONNACK in a packet (3.2).
 abbrev pub connack_in : Packet → Option ConnAck
 connack_in (packets.ConnAck answer) = Some answer
-connack_in p = None
+connack_in packet = None
 
 -- The fields of a CONNECT that determine the response (3.1).
 abbrev pub terms_of : Connect → Terms
-terms_of c = record { clean = c.clean_session; keep_alive = c.keep_alive; anonymous = length c.client_id == 0 }
+terms_of connect = record { clean = connect.clean_session; keep_alive = connect.keep_alive; anonymous = length connect.client_id == 0 }
 
 abbrev pub terms_in : Packet → Option Terms
-terms_in (packets.Connect c) = Some (terms_of c)
-terms_in p = None
+terms_in (packets.Connect connect) = Some (terms_of connect)
+terms_in packet = None
 
 -- The response to an accepted CONNECT: CONNACK, and all retransmissions (3.1.4, 4.4).
 abbrev pub accepts_connect : Terms → Bool → End → Reply
-accepts_connect t session_present e =
-    comes_up (packets.ConnAck (connacks.Accepted session_present) ∷ []) session_present (record (renewed t.clean e) { keep_alive = t.keep_alive })
+accepts_connect terms session_present end =
+    comes_up (packets.ConnAck (connacks.Accepted session_present) ∷ []) session_present (record (renewed terms.clean end) { keep_alive = terms.keep_alive })
 
 -- The server's reaction to a CONNECT with these fields.
 abbrev pub terms_get : Terms → End → Reply
-terms_get t e = if not t.clean && t.anonymous then refuses IdentifierRejected e else accepts_connect t (not t.clean && e.known) e
+terms_get terms end = if not terms.clean && terms.anonymous then refuses IdentifierRejected end else accepts_connect terms (not terms.clean && end.known) end
