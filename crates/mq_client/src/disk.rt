@@ -1,6 +1,6 @@
 //! Disks: named files.
 
-ghost use Rattle.std.specs.Prelude.{◌≡◌, ℕ, List, Option, None, MatchOption, IfOk, IsTrue, OnErr, OnOk, ◌↔◌};
+ghost use Rattle.std.specs.Prelude.{◌≡◌, ◌≢◌, ℕ, List, Option, None, Some, Ok, Err, MatchOption, IfOk, IfErr, IsTrue, OnErr, OnOk, ◌↔◌};
 ghost use Rattle.mq_client.specs.Prelude.{error_kind, Contains, Entry, IsMissing, Moved, Stays, Synced, Touched, Wrote};
 
 use std::alloc::Global;
@@ -58,21 +58,31 @@ fn is_missing(error: &io::Error) -> bool
     error.kind() == ErrorKind::NotFound
 }
 
+// Returns what was opened, or `None` if there is no file of the name. Other errors stay errors.
+fn found<T: Drop>(opened: io::Result<T>) -> io::Result<Option<T>>
+    ensures opened { IfOk opened (λ file. result ≡ Ok (Some file)) }
+    ensures missing { IfErr opened (λ error. error_kind error ≡ ErrorKind.NotFound → result ≡ Ok None) }
+    ensures failed { IfErr opened (λ error. error_kind error ≢ ErrorKind.NotFound → result ≡ Err error) }
+{
+    match opened {
+        Ok(file) => Ok(Some(file)),
+        Err(error) if is_missing(&error) => Ok(None),
+        Err(error) => Err(error),
+    }
+}
+
 // The permissions of a file, or those of a new one.
 fn mode_like<R: Files>(files: &R, name: &str) -> io::Result<u32> {
-    match fs::metadata(files, name) {
-        Ok(found) => Ok(found.permissions().mode() & PERMISSIONS),
-        Err(error) if is_missing(&error) => Ok(OWNER_ONLY),
-        Err(error) => Err(error),
+    match found(fs::metadata(files, name))? {
+        Some(like) => Ok(like.permissions().mode() & PERMISSIONS),
+        None => Ok(OWNER_ONLY),
     }
 }
 
 impl<R: Files> Disk for SystemDisk<'_, R> {
     fn read(&self, alloc: Global, name: &str) -> io::Result<Option<Vec<u8>>> {
-        let mut file = match File::open(self.0, name) {
-            Ok(file) => file,
-            Err(error) if is_missing(&error) => return Ok(None),
-            Err(error) => return Err(error),
+        let Some(mut file) = found(File::open(self.0, name))? else {
+            return Ok(None);
         };
         let mut bytes = Vec::new(alloc);
         file.read_to_end(&mut bytes)?;
