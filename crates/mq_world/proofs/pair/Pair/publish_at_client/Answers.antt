@@ -28,7 +28,7 @@ returns-in_ok-carry-in-Ok-clause-does c = λ limit capacity m s.
           c.publish.new.self.link c.take_all_output-output.result s
           c.in_ok-clone.ensures.cases c.in_ok-clone-in-Ok.ensures.cases c.in-Ok.ensures.refused c.in-Ok.ensures.ok
           (ap (λ (z : ClientState). z.link) c.take_all_output-output.ensures.left) refl refl c.in_ok-accept-in-Ok.ensures.accepted
-          c.in_ok-accept-in-Ok.ensures.handed c.in_ok-accept-in-Ok.ensures.freed
+          c.accept-in-Ok.ensures.handed c.accept-in-Ok.ensures.freed
           c.take_all_output-output.ensures.bytes c.in_ok-carry-in-Ok.ensures.ok refl,
     )
 

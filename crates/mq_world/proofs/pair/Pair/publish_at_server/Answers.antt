@@ -26,8 +26,8 @@ returns-in_ok-carry-in-Ok-clause-does c = λ limit capacity m s.
       published_at c.over_bytes.ensures limit capacity Server w v m c.args.message.now c.in_ok-clone.field-0 c.in_ok-clone-in-Ok.field-0 c.in-Ok.id
           c.publish.new.self c.take_all_output-output.result s
           c.in_ok-clone.ensures.cases c.in_ok-clone-in-Ok.ensures.cases c.in-Ok.ensures.refused c.in-Ok.ensures.ok
-          c.take_all_output-output.ensures.left refl refl c.in_ok-accept-in-Ok.ensures.accepted c.in_ok-accept-in-Ok.ensures.handed
-          c.in_ok-accept-in-Ok.ensures.freed
+          c.take_all_output-output.ensures.left refl refl c.in_ok-accept-in-Ok.ensures.accepted c.accept-in-Ok.ensures.handed
+          c.accept-in-Ok.ensures.freed
           c.take_all_output-output.ensures.bytes c.in_ok-carry-in-Ok.ensures.ok refl,
     )
 
