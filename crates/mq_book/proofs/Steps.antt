@@ -85,3 +85,8 @@ pub refused_on : (on_full : OnFull) (b mid : Pages) (journal : Option Sealed) (e
     → RefusedAs mid event why → RefusedOn on_full b event why
 refused_on on_full b mid journal event why same handed kept p =
     let P : Pages → Type 0 = λ m. RefusedAs m event why in refused_at on_full b journal event why handed kept (subst P same p)
+
+-- a checkpoint keeps the limit
+pub limit_before : (b mid : Pages) (journal : Option Sealed) → mid ≡ checkpointed b journal → 0 < mid.limit → 0 < b.limit
+limit_before b mid None same p = subst (λ (m : Pages). 0 < m.limit) same p
+limit_before b mid (Some j) same p = subst (λ (m : Pages). 0 < m.limit) same p

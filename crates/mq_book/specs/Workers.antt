@@ -1,5 +1,5 @@
 -- The steps of workers.
-use Rattle.std.specs.Prelude.{◌≡◌, ℕ, ◌+◌, ◌≤◌, ◌⊎◌, ⊤, List, [], ◌∷◌, ◌++◌, length, Option, Some, None}
+use Rattle.std.specs.Prelude.{◌≡◌, ℕ, ◌+◌, ◌<◌, ◌≤◌, ◌⊎◌, ⊤, List, [], ◌∷◌, ◌++◌, length, Option, Some, None}
 use Rattle.std.specs.List.{AllByRecursion}
 use Rattle.mq_route.specs.declared.event.HubEvent.{HubEvent}
 use Rattle.mq_route.specs.declared.reply.HubReply.{HubReply}
@@ -22,11 +22,12 @@ abbrev pub IsReceipt : ℕ → HubEvent → Receipt → Type 0
 IsReceipt worker event receipt =
     (before : Pages) × (after : Pages) × JournalledStep worker event before receipt after
 
--- why a worker stops at an event: it is out of memory, or the book refuses the event
+-- why a worker stops at an event: it is out of memory, or a book with places for entries refuses
+-- the event
 abbrev pub StopsFor : OnFull → HubEvent → WorkEnd → Type 0
 StopsFor on_full event why = (why ≡ Memory)
-    ⊎ ((book : Pages) × (refusal : BookRefusal) × RefusedOn on_full book event refusal
-    × (why ≡ end_of refusal))
+    ⊎ ((book : Pages) × (refusal : BookRefusal) × (0 < book.limit)
+    × RefusedOn on_full book event refusal × (why ≡ end_of refusal))
 
 -- A worker: its number, the number of steps that it made, its choice for a full journal, and the
 -- replies that its observer saw.

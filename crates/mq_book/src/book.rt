@@ -1,6 +1,6 @@
 //! A broker with a journal of its steps.
 
-ghost use Rattle.std.specs.Prelude.{◌≡◌, ◌+◌, ◌<◌, ◌∷◌, [], ◌++◌, ◌↔◌, length, None, IfOk, IfErr, IfSome, IsSome, IsTrue, OnOk, OnErr};
+ghost use Rattle.std.specs.Prelude.{◌≡◌, ◌+◌, ◌<◌, ◌∷◌, [], ◌++◌, ◌↔◌, length, None, IfOk, IfErr, IfSome, IsSome, IsTrue, OnOk, OnErr, max};
 ghost use Rattle.mq_book.specs.Prelude.{HubStep, event_refusal, Checkpoint, IsDue, JournalledStep, RefusedAs, RefusedOn, after_checkpoint, checkpointed, journal_of, Replay};
 
 use crate::entry::{Entry, Receipt};
@@ -51,14 +51,16 @@ impl<L: Ledger> Model for Book<L> {
     ghost view = { λ b. record { base = b.base.value; first = b.first; entries = b.log.items; hub = b.hub; limit = b.limit } };
 
     ghost invariant = { λ b. Replay b.base.value b.log.items b.hub
-        × (b.first + length b.log.items ≡ b.steps.total) × (b.first + length b.log.items < 2 ^ 64) };
+        × (b.first + length b.log.items ≡ b.steps.total) × (b.first + length b.log.items < 2 ^ 64)
+        × (0 < b.limit) };
 }
 
 impl<L: Ledger> Book<L> {
-    /// A book with an empty journal of at most `limit` entries. `steps` counts its steps.
+    /// A book with an empty journal of at most `limit` entries. A limit of 0 counts as 1. `steps`
+    /// counts the steps.
     pub fn new(alloc: Global, hub: Hub, limit: usize, steps: ledger::Book<L>) -> Book<L>
         requires { steps.total ≡ 0 }
-        ensures { result ≡ record { base = hub; first = 0; entries = []; hub = hub; limit = limit } }
+        ensures { result ≡ record { base = hub; first = 0; entries = []; hub = hub; limit = max limit 1 } }
     {
         Book {
             alloc,
@@ -66,7 +68,7 @@ impl<L: Ledger> Book<L> {
             first: 0,
             log: EntryLog::new(alloc),
             hub,
-            limit,
+            limit: limit.max(1),
             steps,
         }
     }
@@ -101,6 +103,7 @@ impl<L: Ledger> Book<L> {
         ensures replays { Replay self.new.base self.new.entries self.new.hub }
         ensures refused { IfErr result (λ e. RefusedAs self.old event e.0) }
         ensures right { OnOk result ((event_refusal event self.old.hub ≡ None) × (length self.old.entries < self.old.limit)) }
+        ensures limit { 0 < self.old.limit }
     {
         if let Some(why) = self.hub.refusal(&event) {
             return Err((BookRefusal::Hub(why), event));
@@ -150,6 +153,7 @@ impl<L: Ledger> Book<L> {
         ensures counted { OnOk result.0 (worker.new
             ≡ record { worker = worker.old.worker; count = worker.old.count + 1 }) }
         ensures refused { IfErr result.0 (λ why. RefusedOn on_full self.old event why) }
+        ensures limit { 0 < self.old.limit }
         ensures unchanged { OnErr result.0
             ((self.new ≡ checkpointed self.old result.1) × (worker.new ≡ worker.old)) }
         ensures handed { IfSome result.1 (λ journal.

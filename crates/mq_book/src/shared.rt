@@ -67,6 +67,7 @@ fn new_book<L: Ledger>(
     steps: ledger::Book<L>,
 ) -> Book<L>
     requires steps { steps.total ≡ 0 }
+    requires limit { 0 < limit }
     requires capacity { 0 < config.capacity }
     requires window { IfSome config.window (λ window. 0 < window) }
     ensures { result ≡ record {
