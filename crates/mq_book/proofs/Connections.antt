@@ -10,7 +10,8 @@ use Rattle.mq_route.specs.declared.conn.Conn.{Conn}
 use Rattle.mq_route.specs.declared.event.HubEvent.{HubEvent}
 use Rattle.mq_route.specs.declared.event.HubEvent.TheVariants.{Opened, Bytes, Ended, Tick, Collect}
 use Rattle.mq_route.specs.declared.reply.HubReply.{HubReply}
-use Rattle.mq_book.specs.Connection.{Breaks, Chain, Closes, Collects, Ends, Finishes, IsClosedBy, IsCut, Made, Makes, Outside, Stops, Turn, Turned, Turns, bytes_events, handed, is_known, tick_events, turn_events, turns_events}
+use Rattle.mq_book.specs.Connection.{Breaks, Chain, Closes, Collects, Ends, Finishes, IsClosedBy, IsCut, Made, Makes, Outside, Stops, Turn, bytes_events, handed, is_known, tick_events, turn_events, turns_events}
+use Rattle.mq_book.specs.Inside.Connection.{Turned, Turns}
 use Rattle.mq_book.proofs.Chains.{Ran, chain_then}
 
 abbrev one : HubEvent → HubReply → Made

@@ -11,7 +11,8 @@ use Rattle.mq_book.specs.declared.refusal.BookRefusal.{BookRefusal}
 use Rattle.mq_book.specs.declared.refusal.BookRefusal.TheVariants.{Hub, JournalFull, Memory}
 use Rattle.mq_book.specs.declared.work_end.OnFull.{OnFull}
 use Rattle.mq_book.specs.declared.work_end.OnFull.TheVariants.{Stop, Checkpoint}
-use Rattle.mq_book.specs.Pages.{IsDue, IsFull, JournalledStep, Pages, RefusedAs, RefusedOn, Sealed, after_checkpoint, checkpointed, journal_of, weight, weight_of}
+use Rattle.mq_book.specs.Pages.{IsFull, JournalledStep, Pages, RefusedAs, RefusedOn, Sealed, after_checkpoint, journal_of, weight, weight_of}
+use Rattle.mq_book.specs.Inside.Pages.{IsDue, checkpointed}
 use Rattle.mq_book.specs.Replays.{Replay}
 use Rattle.mq_book.proofs.Replayed.{replay_snoc}
 

@@ -5,3 +5,4 @@ pub mod Prelude
 pub mod Receipts
 pub mod Replays
 pub mod Workers
+pub mod Inside

@@ -1,5 +1,5 @@
 -- A book, a journal and a share, as contracts see them.
-use Rattle.std.specs.Prelude.{◌≡◌, ℕ, zero, suc, ◌+◌, ◌*◌, ◌^◌, ◌≤◌, ◌⊎◌, List, [], ◌∷◌, ◌++◌, length, Option, Some, None}
+use Rattle.std.specs.Prelude.{◌≡◌, ℕ, zero, suc, ◌+◌, ◌*◌, ◌^◌, ◌≤◌, ◌⊎◌, List, [], ◌∷◌, ◌++◌, length, Some, None}
 use Rattle.std.specs.List.{sum_by}
 use Rattle.mq_route.specs.declared.event.HubEvent.{HubEvent}
 use Rattle.mq_route.specs.declared.event.HubEvent.TheVariants.{Opened, Bytes, Ended, Tick, Collect}
@@ -75,11 +75,6 @@ after_checkpoint book = record {
   limit = book.limit;
 }
 
--- the book after a checkpoint, if it handed out this journal
-abbrev pub checkpointed : Pages → Option Sealed → Pages
-checkpointed book None = book
-checkpointed book (Some journal) = after_checkpoint book
-
 -- the bytes that an event brings
 abbrev pub brought : HubEvent → ℕ
 brought (Opened conn) = 0
@@ -96,10 +91,6 @@ weight_of entry =
 -- the estimated size of entries, in bytes
 abbrev pub weight : List Entry → ℕ
 weight entries = sum_by weight_of entries
-
--- the journal must be handed out before the next step: it is full, or larger than 16 MiB
-abbrev pub IsDue : Pages → Type 0
-IsDue book = (book.limit ≤ length book.entries) ⊎ (16777216 ≤ weight book.entries)
 
 -- Why a worker's step is refused. A worker that makes checkpoints meets a full journal only if no
 -- entry fits at all.

@@ -5,7 +5,8 @@ use Rattle.std.specs.Map.{lookup}
 use Rattle.std.specs.Option.{unwrap_or}
 use Rattle.std.specs.Ordering.{is_eq, nat_cmp}
 use Rattle.std.specs.Prelude.{OnErr}
-use Rattle.mq_broker.specs.Missed.{CountsOne, amount}
+use Rattle.mq_broker.specs.Missed.{amount}
+use Rattle.mq_broker.specs.Inside.Missed.{CountsOne}
 
 -- one more is inserted, unless an allocation fails
 pub counted : {A B : Type 0} (r : Result A B) (key number more : ℕ) (old new : List (ℕ × ℕ)) → number ≡ amount key old → more ≡ min (number + 1) (2 ^ 64 - 1) → OnOk r (new ≡ insert_entry nat_cmp old key more)

@@ -6,3 +6,4 @@ pub mod Missed
 pub mod Prelude
 pub mod Recovered
 pub mod Snapshots
+pub mod Inside

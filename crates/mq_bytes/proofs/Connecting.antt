@@ -19,7 +19,8 @@ use Rattle.mq_packet.specs.Values.{IsBinary, IsConnect, IsLogin, IsPacket, IsWil
 use Rattle.mq_decode.proofs.ListLaws.{qos_back, qos_exact}
 use Rattle.mq_bytes.specs.declared.fault.EncodeFault.{EncodeFault}
 use Rattle.mq_bytes.specs.Arguments.{IsConnectOf, IsLoginOf, IsPasswordOf, IsWillOf}
-use Rattle.mq_bytes.specs.Buffers.{EncodesParts, Filled, Frames, Gives}
+use Rattle.mq_bytes.specs.Buffers.{Filled, Gives}
+use Rattle.mq_bytes.specs.Inside.Buffers.{EncodesParts, Frames}
 use Rattle.mq_bytes.specs.Inside.Connects.{LoginWith, NoLogin, NoWill, WillWith, counted_if}
 use Rattle.mq_bytes.proofs.Encoded.{fields_framed, parts_give}
 use Rattle.mq_bytes.proofs.Filling.{Puts, puts_nothing, puts_then}

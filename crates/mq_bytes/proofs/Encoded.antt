@@ -12,7 +12,8 @@ use Rattle.mq_packet.specs.declared.packet.Packet.TheVariants as packets
 use Rattle.mq_wire.specs.Number.{number}
 use Rattle.mq_packet.specs.Identifier.{IsIdentifier}
 use Rattle.mq_bytes.specs.Arguments.{IsAcknowledgementOf, IsBareOf}
-use Rattle.mq_bytes.specs.Buffers.{EncodesParts, Filled, Frames, Gives, Holds}
+use Rattle.mq_bytes.specs.Buffers.{Filled, Gives, Holds}
+use Rattle.mq_bytes.specs.Inside.Buffers.{EncodesParts, Frames}
 use Rattle.mq_bytes.proofs.Filling.{Puts, fields_fill, filled_front, filled_behind, filled_length}
 
 -- the bytes of a packet with this first byte and these fields

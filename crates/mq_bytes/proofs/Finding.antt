@@ -10,7 +10,8 @@ use Rattle.mq_wire.specs.Length.{Length, LengthUnder}
 use Rattle.mq_wire.specs.Number.{NumberLaws, number, number_in}
 use Rattle.mq_wire.specs.Reading.{LengthLaws, read_length}
 use Rattle.mq_wire.specs.declared.length_reading.LengthReading.TheVariants.{Whole}
-use Rattle.mq_wire.specs.Text.{counted, is_special}
+use Rattle.mq_wire.specs.Text.{counted}
+use Rattle.mq_wire.specs.Inside.Text.{is_special}
 use Rattle.mq_wire.proofs.Texts.{plain_text}
 use Rattle.mq_topic.specs.Qos.{qos_number}
 use Rattle.mq_topic.specs.declared.qos.Qos.{Qos}

@@ -18,7 +18,8 @@ use Rattle.mq_bytes.specs.declared.fault.EncodeFault.TheVariants.{Argument, TooL
 use Rattle.mq_bytes.specs.declared.items.ItemKind.{ItemKind}
 use Rattle.mq_bytes.specs.declared.items.ItemKind.TheVariants as kinds
 use Rattle.mq_bytes.specs.Arguments.{IsListOf}
-use Rattle.mq_bytes.specs.Buffers.{EncodesParts, Gives}
+use Rattle.mq_bytes.specs.Buffers.{Gives}
+use Rattle.mq_bytes.specs.Inside.Buffers.{EncodesParts}
 use Rattle.mq_bytes.specs.Inside.Items.{AreItems, IsItem, first_of, kind_number}
 use Rattle.mq_bytes.proofs.Encoded.{parts_give}
 

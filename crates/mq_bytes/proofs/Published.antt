@@ -24,8 +24,10 @@ use Rattle.mq_decode.proofs.BodyLaws.{refusal_back, refusal_exact}
 use Rattle.mq_decode.proofs.ListLaws.{qos_back, qos_exact}
 use Rattle.mq_bytes.specs.declared.fault.EncodeFault.{EncodeFault}
 use Rattle.mq_bytes.specs.declared.fault.EncodeFault.TheVariants.{TooLarge}
-use Rattle.mq_bytes.specs.Arguments.{IsAnswerOf, IsConnAckOf, IsPublishOf, MayDeliver}
-use Rattle.mq_bytes.specs.Buffers.{EncodesParts, Gives}
+use Rattle.mq_bytes.specs.Arguments.{IsAnswerOf, IsConnAckOf, IsPublishOf}
+use Rattle.mq_bytes.specs.Inside.Arguments.{MayDeliver}
+use Rattle.mq_bytes.specs.Buffers.{Gives}
+use Rattle.mq_bytes.specs.Inside.Buffers.{EncodesParts}
 use Rattle.mq_bytes.specs.Places.{dup_of, identifier_of}
 use Rattle.mq_bytes.proofs.Encoded.{parts_give}
 

@@ -3,8 +3,6 @@ use Rattle.std.specs.Prelude.{◌≡◌, ℕ, Bool, true, false, List, Option, N
 use Rattle.std.specs.List.{flat_map}
 use Rattle.mq_wire.specs.Text.{counted}
 use Rattle.mq_topic.specs.Qos.{qos_number}
-use Rattle.mq_topic.specs.declared.qos.Qos.{Qos}
-use Rattle.mq_topic.specs.declared.qos.Qos.TheVariants.{Q0, Q1, Q2}
 use Rattle.mq_packet.specs.declared.connack.ConnAck.{ConnAck}
 use Rattle.mq_packet.specs.declared.connack.ConnAck.TheVariants.{Accepted, Refused}
 use Rattle.mq_packet.specs.declared.connect.Login.{Login}
@@ -14,7 +12,6 @@ use Rattle.mq_packet.specs.declared.packet.Packet.{Packet}
 use Rattle.mq_packet.specs.declared.packet.Packet.TheVariants as packets
 use Rattle.mq_packet.specs.Codes.{refusal_number}
 use Rattle.mq_packet.specs.Encoding.{code_fields, request_fields}
-use Rattle.mq_packet.specs.Identifier.{IsIdentifier}
 use Rattle.mq_bytes.specs.Places.{dup_of, identifier_of}
 
 -- A packet of this type whose only field is this identifier (3.4 to 3.7, 3.11).
@@ -63,12 +60,6 @@ IsPublishOf topic payload qos retain dup id (packets.Publish packet) =
     IsMessageOf topic payload qos retain packet.message
     × (dup_of packet.delivery ≡ dup) × (identifier_of packet.delivery ≡ id)
 IsPublishOf topic payload qos retain dup id packet = ⊥
-
--- With this quality of service a PUBLISH can have this DUP and identifier (2.3.1, 3.3.1.1).
-abbrev pub MayDeliver : Qos → Bool → ℕ → Type 0
-MayDeliver Q0 dup id = (dup ≡ false) × (id ≡ 0)
-MayDeliver Q1 dup id = IsIdentifier id
-MayDeliver Q2 dup id = IsIdentifier id
 
 -- The will with these parts (3.1.3.2, 3.1.3.3), if there is one.
 abbrev pub IsWillOf : Bool → List ℕ → List ℕ → ℕ → Bool → Option Will → Type 0

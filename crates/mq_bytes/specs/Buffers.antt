@@ -1,6 +1,5 @@
 -- Packets in a caller's buffer.
-use Rattle.std.specs.Prelude.{◌≡◌, ℕ, ◌≤◌, ◌^◌, ◌<◌, List, ◌∷◌, ◌++◌, length, take, drop, Result, Ok, Err}
-use Rattle.mq_wire.specs.Length.{length_bytes}
+use Rattle.std.specs.Prelude.{◌≡◌, ℕ, ◌≤◌, ◌^◌, ◌<◌, List, ◌++◌, length, take, drop, Result, Ok, Err}
 use Rattle.mq_packet.specs.declared.packet.Packet.{Packet}
 use Rattle.mq_packet.specs.Values.{IsPacket}
 use Rattle.mq_packet.specs.Encoding.{Encodes, encoded_size, fields}
@@ -18,20 +17,6 @@ pub record Holds (packet : Packet) (old new : List ℕ) (count : ℕ) : Type 0 w
   pub encodes : Encodes packet (take count new)
   pub rest : drop count new ≡ drop count old
   pub same : length new ≡ length old
-
--- `new` is `old` with a packet of this first byte and these fields over its first `count` bytes.
-abbrev pub Frames : ℕ → List ℕ → List ℕ → List ℕ → ℕ → Type 0
-Frames first body old new count =
-    Filled old (first ∷ length_bytes (length body) ++ body) new × (count ≡ encoded_size (length body))
-    × (count ≤ length old) × (length body < 2 ^ 28)
-
--- The result of writing such a packet.
-abbrev pub EncodesParts : ℕ → List ℕ → List ℕ → List ℕ → Result ℕ EncodeFault → Type 0
-EncodesParts first body old new (Ok count) = Frames first body old new count
-EncodesParts first body old new (Err TooLarge) = (2 ^ 28 ≤ length body) × (new ≡ old)
-EncodesParts first body old new (Err Room) =
-    (length old < encoded_size (length body)) × (new ≡ old)
-EncodesParts first body old new (Err Argument) = ⊥
 
 -- The result of encoding a packet with these fields into a buffer: its number of bytes, or an
 -- error, and the buffer is unchanged. `TooLarge`: its remaining length would exceed 268,435,455

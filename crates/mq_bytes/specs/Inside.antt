@@ -1,3 +1,5 @@
 -- Definitions that only the proofs of this crate need: no public contract cites them.
+pub mod Arguments
+pub mod Buffers
 pub mod Connects
 pub mod Items

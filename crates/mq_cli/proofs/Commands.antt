@@ -7,7 +7,8 @@ use Rattle.std.proofs.lemmas.List.{get_or-map, length-map, map_more, map_push}
 use Rattle.std.proofs.lemmas.Slice.Eq.{bytes_eq-Decides}
 use Rattle.clap.specs.Words.{App, Shape, Text, app_of, shape_of}
 use Rattle.clap.specs.declared.builder.command.Command.{Command}
-use Rattle.mq_cli.specs.Grammar.{command_named, program_words}
+use Rattle.mq_cli.specs.Grammar.{program_words}
+use Rattle.mq_cli.specs.Inside.Grammar.{command_named}
 
 -- a command that was made is the one of its name
 pub shown : {E : Type 0} (name word : Text) (words : App) (made result : Result Command E) → name ≡ word → command_named word ≡ Some words.top → IfOk made (λ c. app_of c ≡ words)

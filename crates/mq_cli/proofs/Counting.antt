@@ -11,9 +11,10 @@ use Rattle.mq_decode.specs.Grammar.{Reading, Stream}
 use Rattle.mq_decode.specs.Laws.{ReadsAgain}
 use Rattle.mq_cli.specs.declared.stream.StreamEnd.TheVariants as shown
 use Rattle.mq_cli.specs.declared.count.CountEnd.TheVariants as ends
-use Rattle.mq_cli.specs.Count.{Counts, EndsAt, count_rest}
+use Rattle.mq_cli.specs.Count.{Counts, EndsAt}
+use Rattle.mq_cli.specs.Inside.Count.{count_rest}
 use Rattle.mq_cli.specs.Show.{Reads}
-use Rattle.mq_cli.specs.Status.{end_of_rest}
+use Rattle.mq_cli.specs.Inside.Status.{end_of_rest}
 use Rattle.mq_cli.proofs.InTurn.{Printed, end_of, fault_of, more_printed, more_read, none_printed}
 
 -- The bytes read are those of the counted packets, followed by these.

@@ -17,7 +17,8 @@ use Rattle.mq_cli.specs.declared.stream.StreamEnd.TheVariants.{Fault}
 use Rattle.mq_cli.specs.Printed.{end_lines, fault_line, packet_line, shown_lines}
 use Rattle.mq_cli.specs.Show.{AreFirst, Reads}
 use Rattle.mq_cli.specs.Stops.{IsTooLong}
-use Rattle.mq_cli.specs.Status.{IsCutShort, IsStreamShown, end_of_rest, end_status, widest}
+use Rattle.mq_cli.specs.Status.{IsCutShort, IsStreamShown, end_status, widest}
+use Rattle.mq_cli.specs.Inside.Status.{end_of_rest}
 use Rattle.mq_cli.proofs.Streams.{behind}
 
 -- The bytes read are those of the printed packets, followed by these.

@@ -61,12 +61,6 @@ abbrev pub IsShownFrom : Option (Text × List Row) → Source → Type 0
 IsShownFrom command source =
     (GivesWord command (codes "show") (codes "HEX") (codes "-") × HasWord command (codes "show") (codes "FILE") None × (source ≡ Standard)) ⊎ (HasWord command (codes "show") (codes "HEX") None × GivesSource command (codes "show") (codes "FILE") source)
 
--- the job of `show` for the word HEX
-abbrev pub IsDigitsJob : Text → Bool → Job → Type 0
-IsDigitsJob word flag (Show hex lenient) = (hex.now ≡ word) × (word ≢ codes "-") × (lenient ≡ flag)
-IsDigitsJob word flag (ShowFrom source lenient) = (source ≡ Standard) × (word ≡ codes "-") × (lenient ≡ flag)
-IsDigitsJob word flag job = ⊥
-
 -- the job is that of the command that was met and of its values
 abbrev pub IsJobOf : Option (Text × List Row) → Job → Type 0
 IsJobOf command (Show hex lenient) = IsDigits command hex.now × GivesFlag command (codes "show") (codes "LENIENT") lenient

@@ -1,5 +1,5 @@
 -- Counting the packets of a reader.
-use Rattle.std.specs.Prelude.{◌≡◌, ⊤, ℕ, ◌+◌, ◌<◌, ◌==◌, if◌then◌else◌, Bool, true, List, [], length, Option, Some, None}
+use Rattle.std.specs.Prelude.{◌≡◌, ⊤, ℕ, ◌+◌, ◌<◌, Bool, true, List, [], length, Option, Some, None}
 use Rattle.mq_packet.specs.declared.packet.Packet.{Packet}
 use Rattle.mq_decode.specs.Limits.{Bounds}
 use Rattle.mq_decode.specs.Grammar.{Reading}
@@ -22,10 +22,6 @@ EndsAt limits bytes packets (Fault fault start) = (rest : List ℕ) × Reading l
 -- the number of packets, and the end, of these bytes
 abbrev pub Counts : Bounds → PacketCount → List ℕ → Type 0
 Counts limits count bytes = (packets : List Packet) × EndsAt limits bytes packets count.end × (count.packets ≡ length packets)
-
--- The end if this many bytes without a fault follow the packets.
-abbrev pub count_rest : ℕ → CountEnd
-count_rest held = if held == 0 then Whole else Cut
 
 -- why packets are not counted: a read may fail, or there are too many bytes
 abbrev pub IsNotCounted : Option (List ℕ) → Bool → CountFault → Type 0

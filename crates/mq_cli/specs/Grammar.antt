@@ -1,8 +1,7 @@
 -- The command line: its commands, and the words of each.
-use Rattle.std.specs.Prelude.{pos, true, Option, Some, codes, find}
-use Rattle.std.specs.Str.{bytes_eq}
+use Rattle.std.specs.Prelude.{pos, true, Some, codes}
 use Rattle.clap.specs.Simple.{on_top}
-use Rattle.clap.specs.Words.{App, Rule, Shape, Text, new_app, new_rule, with_rule, with_subcommand}
+use Rattle.clap.specs.Words.{App, Rule, Text, new_app, new_rule, with_rule, with_subcommand}
 use Rattle.clap.specs.declared.builder.action.ArgAction.TheVariants.{Append, SetTrue}
 use Rattle.clap.specs.declared.builder.value_parser.ValueParser.{ValueParser}
 use Rattle.clap.specs.declared.builder.value_parser.ValueParser.TheVariants.{Signed, Unsigned}
@@ -150,7 +149,3 @@ served_words = with_subcommand (with_subcommand (with_subcommand (with_subcomman
 -- `completion SHELL`, `manual`
 abbrev pub program_words : App
 program_words = with_subcommand (with_subcommand served_words (word_words (codes "completion") (codes "SHELL")).top) (new_app (codes "manual")).top
-
--- the command of the program that has this name
-unfoldable pub command_named : Text → Option Shape
-command_named name = find (λ command. bytes_eq command.name name) program_words.subs

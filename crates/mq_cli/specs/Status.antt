@@ -1,5 +1,5 @@
 -- The exit status of each command, and its output.
-use Rattle.std.specs.Prelude.{◌≡◌, ◌⊎◌, ℕ, ◌==◌, if◌then◌else◌, Bool, true, false, List, [], ◌∷◌, ◌++◌, map, Option, Some, None, IfSome, IsUtf8, codes, decimal}
+use Rattle.std.specs.Prelude.{◌≡◌, ◌⊎◌, ℕ, Bool, true, false, List, [], ◌∷◌, ◌++◌, map, Option, Some, None, IfSome, IsUtf8, codes, decimal}
 use Rattle.std.specs.List.{flat_map}
 use Rattle.std.specs.Int.NonZero.{non_zero_u16_get}
 use Rattle.mq_topic.specs.Fault.{filter_fault, name_fault}
@@ -48,10 +48,6 @@ widest lenient = record { most = 268435455; lenient = lenient }
 abbrev pub IsShowDone : Bool → List ℕ → ℕ → List ℕ → Type 0
 IsShowDone lenient digits status text =
     ((shown : Shown) × Shows (widest lenient) digits shown × (status ≡ end_status shown.end) × (text ≡ shown_lines shown.packets.items shown.end)) ⊎ ((status ≡ 2) × (text ≡ bad_hex) × (¬ IsHexadecimal digits)) ⊎ ((status ≡ 3) × (text ≡ no_memory))
-
--- The end if this many bytes follow the packets.
-abbrev pub end_of_rest : ℕ → StreamEnd
-end_of_rest held = if held == 0 then Whole else Held held
 
 -- The status and line if reading can't continue: 2 if a read may fail or there are too many bytes,
 -- or 3 for a failed allocation.

@@ -8,11 +8,6 @@ abbrev pub OnMemory : Stop → Type 0 → Type 0
 OnMemory (Io error) P = ⊤
 OnMemory Memory P = P
 
--- A fact that holds if a read failed.
-abbrev pub OnIo : Stop → Type 0 → Type 0
-OnIo (Io error) P = P
-OnIo Memory P = ⊤
-
 -- there are more bytes than 64 bits count
 abbrev pub IsTooLong : Option (List ℕ) → Type 0
 IsTooLong left = IfSome left (λ bytes. 2 ^ 64 ≤ length bytes)

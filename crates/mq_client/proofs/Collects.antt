@@ -12,7 +12,8 @@ use Rattle.mq_client.specs.declared.collector.CollectGoal.{CollectGoal}
 use Rattle.mq_client.specs.Course.{Leaves, Moment, Opening, Subscription, Went}
 use Rattle.mq_client.specs.Halts.{Reports, halt_status}
 use Rattle.mq_client.specs.Printed.{halt_line, subscribed_line, told_line}
-use Rattle.mq_client.specs.Collecting.{Collected, CollectHalts, Gathers, Grows, IsAnswered, IsCollectDone, IsJust, Keeps, KeepsFirst, Unacknowledged, Unprinted, collects, handed, request_of}
+use Rattle.mq_client.specs.Collecting.{Collected, CollectHalts, Grows, IsAnswered, IsCollectDone, IsJust, Keeps, KeepsFirst, Unacknowledged, Unprinted, collects, handed, request_of}
+use Rattle.mq_client.specs.Inside.Collecting.{Gathers}
 use Rattle.mq_client.proofs.Collected.{first_after, keeps_told, keeps_then, misses_none}
 use Rattle.mq_end.specs.declared.happening.Happening.TheVariants as happens
 use Rattle.mq_client.proofs.Courses.{went_none, went_on, went_still, went_then}

@@ -12,7 +12,8 @@ use Rattle.mq_client.specs.Course.{Moment, Went}
 use Rattle.mq_flow.specs.Receiver.{none_received}
 use Rattle.mq_end.specs.End.{is_up}
 use Rattle.mq_end.specs.Publishing.{ClientState}
-use Rattle.mq_client.specs.Collecting.{Gathers, Grows, IsJust, IsNeeded, Unprinted, handed}
+use Rattle.mq_client.specs.Collecting.{Grows, IsJust, IsNeeded, Unprinted, handed}
+use Rattle.mq_client.specs.Inside.Collecting.{Gathers}
 use Rattle.mq_client.specs.Printed.{told_line}
 use Rattle.mq_client.proofs.Courses.{reports_none, went_none, went_on, went_still}
 

@@ -9,7 +9,8 @@ use Rattle.mq_client.specs.declared.error.ClientError.{ClientError}
 use Rattle.mq_client.specs.declared.publisher.Publications.{Publications}
 use Rattle.mq_client.specs.Course.{Ask, IsIdle, Leaves, Moment, Opening, Publication, Went, WentFirst}
 use Rattle.mq_client.specs.Halts.{Reports, closes_of, halt_closes}
-use Rattle.mq_client.specs.Publishing.{AskedAll, AskedFirst, AskedMore, PublishHalts, Published, asks_of, publishes, text_message}
+use Rattle.mq_client.specs.Publishing.{AskedAll, PublishHalts, Published, asks_of, publishes, text_message}
+use Rattle.mq_client.specs.Inside.Publishing.{AskedFirst, AskedMore}
 use Rattle.mq_client.proofs.Courses.{reports_none, went_none, went_still, went_then}
 
 pub more_none : (a : Moment) (all : List Ask) (n : ℕ) → AskedMore a a all n n

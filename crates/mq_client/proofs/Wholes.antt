@@ -9,8 +9,9 @@ use Rattle.mq_client.specs.declared.publisher.Publications.{Publications}
 use Rattle.mq_client.specs.Course.{Moment}
 use Rattle.mq_client.specs.Program.{IsNewClient}
 use Rattle.mq_client.specs.declared.error.ClientError.{ClientError}
-use Rattle.mq_client.specs.Disk.{Entry, history_of, stands_of}
-use Rattle.mq_client.specs.Programs.{IsClientOf, IsDiscarded, IsKeptDone, IsLostDone, IsMessagesDone, IsSessionDone, IsTextsDone}
+use Rattle.mq_client.specs.Disk.{FileState, history_of, stands_of}
+use Rattle.mq_client.specs.Programs.{IsClientOf, IsDiscarded, IsLostDone, IsMessagesDone, IsSessionDone, IsTextsDone}
+use Rattle.mq_client.specs.Inside.Programs.{IsKeptDone}
 use Rattle.mq_client.specs.Publishing.{IsPublishDone, IsResumeDone, Published}
 use Rattle.mq_client.specs.Collecting.{IsCollectDone}
 
@@ -35,7 +36,7 @@ pub kept_done : {E : Type 0} → (r : Result ℕ E) (kept : Option (List ℕ)) (
 kept_done (Ok status) kept client t a b w v same keeps p = (p.0, p.1, inl (a, b, same, keeps, p.2))
 kept_done (Err e) kept client t a b w v same keeps p = tt
 
-pub session_done : {E : Type 0} → (r : Result ℕ E) (files : Option (List ℕ → List Entry)) (name : List ℕ) (forgotten : Bool) (id : List ℕ) (file : Option (List Entry)) (client : ClientState) (t : Publications) (w v : Option (List ℕ))
+pub session_done : {E : Type 0} → (r : Result ℕ E) (files : Option (List ℕ → List FileState)) (name : List ℕ) (forgotten : Bool) (id : List ℕ) (file : Option (List FileState)) (client : ClientState) (t : Publications) (w v : Option (List ℕ))
     → IsClientOf files name forgotten id false client → file ≡ history_of files name → IfOk r (λ status. Prints w v (IsKeptDone (stands_of file) client t status))
     → IfOk r (λ status. Prints w v (IsSessionDone files name forgotten id t status))
 session_done (Ok status) files name forgotten id file client t w v own same p = (
@@ -49,7 +50,7 @@ session_done (Ok status) files name forgotten id file client t w v own same p = 
 session_done (Err e) files name forgotten id file client t w v own same p = tt
 
 -- the file says that the server lost the session
-pub lost_done : {E : Type 0} → (r : Result ℕ E) (files : Option (List ℕ → List Entry)) (name : List ℕ) (forgotten : Bool) (id : List ℕ) (client : ClientState) (t : Publications) (w v : Option (List ℕ))
+pub lost_done : {E : Type 0} → (r : Result ℕ E) (files : Option (List ℕ → List FileState)) (name : List ℕ) (forgotten : Bool) (id : List ℕ) (client : ClientState) (t : Publications) (w v : Option (List ℕ))
     → IsClientOf files name forgotten id true client → IfOk r (λ status. Prints w v (IsLostDone client status)) → IfOk r (λ status. Prints w v (IsSessionDone files name forgotten id t status))
 lost_done (Ok status) files name forgotten id client t w v own p = (p.0, p.1, inr (inr (inr (client, own, p.2))))
 lost_done (Err e) files name forgotten id client t w v own p = tt

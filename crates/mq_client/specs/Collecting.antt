@@ -1,5 +1,5 @@
 -- What `collect` does.
-use Rattle.std.specs.Prelude.{◌≡◌, ◌⊎◌, ⊤, ℕ, ◌≤◌, ◌<◌, ◌-◌, Bool, true, false, List, [], ◌∷◌, ◌++◌, length, Option, Result, Err, OnOk}
+use Rattle.std.specs.Prelude.{◌≡◌, ◌⊎◌, ⊤, ℕ, ◌≤◌, ◌<◌, ◌-◌, Bool, true, false, List, [], ◌∷◌, ◌++◌, length, Option, Result, Err}
 use Rattle.std.specs.List.{flat_map}
 use Rattle.std.specs.Io.KnownBytes.{Appends, Keeps as Silent}
 use Rattle.mq_flow.specs.Receiver.{none_received}
@@ -120,19 +120,6 @@ pub record IsJust (earlier : Moment) (told : List Happening) (count : ℕ) : Typ
   pub parts : told ≡ before ++ after
   pub went : Went earlier last [] before []
   pub needed : (after ≡ []) ⊎ IsNeeded last.client (length (flat_map handed before)) count
-
--- The happenings are printed. If all went well, at least `count` messages were delivered, and each
--- read was needed for that; every message is released (4.3.3), and the end is connected.
-pub record Gathers (earlier later : Moment) (old new : Option (List ℕ)) (count : ℕ) (result : Result ⊤ ClientError) : Type 0 where
-  pub told : List Happening
-  pub reasons : List CloseReason
-  pub went : Went earlier later [] told reasons
-  pub closes : Closes result reasons
-  pub printed : Appends old new (flat_map told_line told)
-  pub enough : OnOk result (count ≤ length (flat_map handed told))
-  pub just : OnOk result (IsJust earlier told count)
-  pub released : OnOk result (later.client.link.end.received ≡ none_received)
-  pub up : OnOk result (is_up later.client.link.end.state ≡ true)
 
 -- A connection began, and the subscription was requested once and granted. At least `count`
 -- messages were delivered, and each read was needed for that. All messages are released. Then the

@@ -9,3 +9,4 @@ pub mod Printed
 pub mod Program
 pub mod Programs
 pub mod Publishing
+pub mod Inside

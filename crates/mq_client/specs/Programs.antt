@@ -8,7 +8,7 @@ use Rattle.mq_client.specs.declared.client.LoadFailure.{LoadFailure}
 use Rattle.mq_client.specs.declared.collector.CollectGoal.{CollectGoal}
 use Rattle.mq_client.specs.declared.publisher.Publications.{Publications}
 use Rattle.mq_client.specs.Course.{Moment}
-use Rattle.mq_client.specs.Disk.{Contains, Entry, IsMissing, history_of, stands_of}
+use Rattle.mq_client.specs.Disk.{Contains, FileState, IsMissing, history_of, stands_of}
 use Rattle.mq_client.specs.Halts.{halt_status, unloaded_status}
 use Rattle.mq_client.specs.Keeping.{marked_form}
 use Rattle.mq_client.specs.Printed.{halt_line, resumed_line, unloaded_line}
@@ -40,17 +40,17 @@ IsDiscarded id =
     × (publications.texts.now ≡ []) × Published earlier later true publications
 
 -- There is no session to continue with: it is forgotten, or there is no file of this name.
-abbrev pub IsAbsent : Option (List ℕ → List Entry) → List ℕ → Bool → Type 0
+abbrev pub IsAbsent : Option (List ℕ → List FileState) → List ℕ → Bool → Type 0
 IsAbsent files name forgotten = (forgotten ≡ true) ⊎ IsMissing files name
 
 -- The client has the session whose saved form is in the file of this name. The file says whether
 -- the server lost the session.
-abbrev pub IsLoadedOf : Option (List ℕ → List Entry) → List ℕ → List ℕ → Bool → ClientState → Type 0
+abbrev pub IsLoadedOf : Option (List ℕ → List FileState) → List ℕ → List ℕ → Bool → ClientState → Type 0
 IsLoadedOf files name id lost client = (form : List ℕ) × Contains files name (marked_form lost form) × GoesOn id form client
 
 -- A client with this identifier. If there is no session to continue with, it is new, and the
 -- server's session was discarded. Otherwise it has the session in the file.
-abbrev pub IsClientOf : Option (List ℕ → List Entry) → List ℕ → Bool → List ℕ → Bool → ClientState → Type 0
+abbrev pub IsClientOf : Option (List ℕ → List FileState) → List ℕ → Bool → List ℕ → Bool → ClientState → Type 0
 IsClientOf files name forgotten id lost client =
     (IsAbsent files name forgotten × IsNewClient id client × IsDiscarded id × (lost ≡ false))
     ⊎ IsLoadedOf files name id lost client
@@ -64,15 +64,9 @@ IsLostDone client status text =
 abbrev pub IsUnloaded : ℕ → List ℕ → Type 0
 IsUnloaded status text = (why : LoadFailure) × (status ≡ unloaded_status why) × (text ≡ unloaded_line why)
 
--- `publish` by this client, over its session, which is saved in place of these bytes
-abbrev pub IsKeptDone : Option (List ℕ) → ClientState → Publications → ℕ → List ℕ → Type 0
-IsKeptDone kept client publications status text =
-    ((earlier : Moment) × (later : Moment) × (earlier.client ≡ client) × (earlier.kept ≡ kept) × IsResumeDone earlier later publications status text)
-    ⊎ HaltsBefore status text
-
 -- `publish` by a client with this identifier, over the session in the file of this name, or over a
 -- new one. If the file says that the server lost the session, that is reported.
-abbrev pub IsSessionDone : Option (List ℕ → List Entry) → List ℕ → Bool → List ℕ → Publications → ℕ → List ℕ → Type 0
+abbrev pub IsSessionDone : Option (List ℕ → List FileState) → List ℕ → Bool → List ℕ → Publications → ℕ → List ℕ → Type 0
 IsSessionDone files name forgotten id publications status text =
     ((earlier : Moment) × (later : Moment) × IsClientOf files name forgotten id false earlier.client
     × (earlier.kept ≡ stands_of (history_of files name)) × IsResumeDone earlier later publications status text)

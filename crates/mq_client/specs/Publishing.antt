@@ -1,5 +1,5 @@
 -- What `publish` does.
-use Rattle.std.specs.Prelude.{◌≡◌, ◌⊎◌, ℕ, Bool, true, false, ◌+◌, List, [], ◌∷◌, length, ◌++◌, map, take}
+use Rattle.std.specs.Prelude.{◌≡◌, ◌⊎◌, ℕ, Bool, true, false, ◌+◌, List, [], ◌∷◌, length, ◌++◌, map}
 use Rattle.mq_packet.specs.declared.message.Message.{Message}
 use Rattle.mq_end.specs.declared.happening.Happening.{Happening}
 use Rattle.mq_end.specs.declared.reason.CloseReason.{CloseReason}
@@ -21,18 +21,6 @@ asks_of publications = map (λ text. Publication (text_message publications text
 -- one connection, with clean session or not (3.1), and then the messages
 abbrev pub publishes : Bool → Publications → List Ask
 publishes clean publications = Opening clean ∷ asks_of publications
-
--- The first `count` of these requests were made, in order, and no other. The end closed for these
--- reasons.
-pub record AskedFirst (earlier later : Moment) (all : List Ask) (count : ℕ) (reasons : List CloseReason) : Type 0 where
-  pub told : List Happening
-  pub went : Went earlier later (take count all) told reasons
-
--- the requests from one place to another were made
-pub record AskedMore (earlier later : Moment) (all : List Ask) (from to : ℕ) : Type 0 where
-  pub more : List Ask
-  pub went : Went earlier later more [] []
-  pub parts : take to all ≡ take from all ++ more
 
 -- All these requests were made, in order, and no other. Everything is acknowledged, and the end is
 -- connected.

@@ -1,7 +1,7 @@
 //! Disks: named files.
 
 ghost use Rattle.std.specs.Prelude.{◌≡◌, ◌≢◌, ℕ, List, Option, None, Some, Ok, Err, MatchOption, IfOk, IfErr, IsTrue, OnErr, OnOk, ◌↔◌};
-ghost use Rattle.mq_client.specs.Prelude.{error_kind, Contains, Entry, IsMissing, Moved, Stays, Synced, Touched, Wrote};
+ghost use Rattle.mq_client.specs.Prelude.{error_kind, Contains, FileState, IsMissing, Moved, Stays, Synced, Touched, Wrote};
 
 use std::alloc::Global;
 use std::fs::{File, OpenFile, OpenOptions, Permissions};
@@ -19,7 +19,7 @@ pub(crate) const OWNER_ONLY: u32 = 0o600;
 /// Named files, as far as a session needs them.
 pub trait Disk {
     /// For each name, the contents that a crash may have left so far, in order, if they are known.
-    ghost history: { Self → Option (List ℕ → List Entry) } = { λ _. None };
+    ghost history: { Self → Option (List ℕ → List FileState) } = { λ _. None };
 
     /// Reads a whole file. Returns `None` if there is no file of this name.
     fn read(&self, alloc: Global, name: &str) -> io::Result<Option<Vec<u8>>>
@@ -58,7 +58,7 @@ fn is_missing(error: &io::Error) -> bool
     error.kind() == ErrorKind::NotFound
 }
 
-// Returns what was opened, or `None` if there is no file of the name. Other errors stay errors.
+// Returns the opened file, or `None` if there is no file of the name. Other errors stay errors.
 fn found<T: Drop>(opened: io::Result<T>) -> io::Result<Option<T>>
     ensures opened { IfOk opened (λ file. result ≡ Ok (Some file)) }
     ensures missing { IfErr opened (λ error. error_kind error ≡ ErrorKind.NotFound → result ≡ Ok None) }

@@ -25,9 +25,9 @@ pub struct SessionFile<'a, D: Disk> {
 
 impl<'a, D: Disk> Model for SessionFile<'a, D> {
     ghost use Rattle.std.specs.Prelude.{List, Option, IfSome};
-    ghost use Rattle.mq_client.specs.Disk.{Entry, IsLast, history_of};
+    ghost use Rattle.mq_client.specs.Disk.{FileState, IsLast, history_of};
 
-    ghost Value = { Option (List Entry) };
+    ghost Value = { Option (List FileState) };
 
     ghost view = { λ f. history_of (D.history f.disk) f.name.now };
 

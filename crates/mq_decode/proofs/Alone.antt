@@ -7,7 +7,8 @@ use Rattle.mq_packet.specs.Encoding.{fields}
 use Rattle.mq_decode.specs.declared.fault.DecodeError.{DecodeError}
 use Rattle.mq_decode.specs.declared.fault.DecodeError.TheVariants as errors
 use Rattle.mq_decode.specs.Copied.{Copies, counted_more}
-use Rattle.mq_decode.specs.Grammar.{Appends, Goes, IsAlone, Pending, ReadsWithin, Stops, Takes}
+use Rattle.mq_decode.specs.Grammar.{Appends, Goes, Pending, ReadsWithin, Stops, Takes}
+use Rattle.mq_decode.specs.Inside.Grammar.{IsAlone}
 use Rattle.mq_decode.specs.Limits.{Bounds}
 use Rattle.mq_decode.proofs.Copying.{alone_reads}
 use Rattle.mq_decode.proofs.FrontLaws.{parts_of}

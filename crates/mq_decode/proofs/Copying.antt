@@ -4,7 +4,8 @@ use Rattle.std.proofs.lemmas.Bool.{cases_lt}
 use Rattle.std.proofs.lemmas.List.{append-nil, nil_from_length, length-take, length-drop, take-append-drop, take_all}
 use Rattle.mq_packet.specs.declared.packet.Packet.{Packet}
 use Rattle.mq_decode.specs.Limits.{Bounds}
-use Rattle.mq_decode.specs.Grammar.{ReadsWithin, Pending, Goes, IsAlone}
+use Rattle.mq_decode.specs.Grammar.{ReadsWithin, Pending, Goes}
+use Rattle.mq_decode.specs.Inside.Grammar.{IsAlone}
 use Rattle.mq_decode.specs.Copied.{Adds, Copies, counted_more}
 use Rattle.mq_decode.proofs.Streams.{pending_nil}
 

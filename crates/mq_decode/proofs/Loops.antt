@@ -7,7 +7,7 @@ use Rattle.mq_decode.specs.declared.fault.BadField.{BadField}
 use Rattle.mq_decode.specs.declared.fault.FieldsError.{FieldsError}
 use Rattle.mq_decode.specs.declared.fault.FieldsError.TheVariants as errors
 use Rattle.mq_decode.specs.Gives.{◌>>=◌, Fails}
-use Rattle.mq_decode.specs.Lent.{rest_of}
+use Rattle.mq_decode.specs.Inside.Lent.{rest_of}
 use Rattle.mq_decode.specs.Lists.{items_at, list_at}
 use Rattle.mq_decode.proofs.FieldLaws.{ok_is}
 

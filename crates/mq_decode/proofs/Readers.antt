@@ -11,7 +11,8 @@ use Rattle.mq_decode.specs.declared.read.ReadError.TheVariants as errors
 use Rattle.mq_decode.specs.Limits.{Bounds}
 use Rattle.mq_decode.specs.Grammar.{ReadsWithin, Faulty, Pending, Wants, IsFront}
 use Rattle.mq_decode.specs.Laws.{ReadsAgain}
-use Rattle.mq_decode.specs.Reader.{ReadStops, Answers, FillStops, TakesSized, TakesWithin, stop_of, without_size}
+use Rattle.mq_decode.specs.Reader.{ReadStops, Answers, TakesSized, TakesWithin}
+use Rattle.mq_decode.specs.Inside.Reader.{FillStops, stop_of, without_size}
 use Rattle.mq_decode.proofs.Streams.{PendingBefore, before_alone, before_more, faulty_more}
 
 -- something was left

@@ -13,7 +13,8 @@ use Rattle.mq_decode.specs.declared.fault.DecodeFault.{DecodeFault}
 use Rattle.mq_decode.specs.declared.fault.DecodeError.{DecodeError}
 use Rattle.mq_decode.specs.declared.fault.DecodeError.TheVariants as errors
 use Rattle.mq_decode.specs.Limits.{Bounds}
-use Rattle.mq_decode.specs.Grammar.{ReadsWithin, Stream, BadLength, Faulty, AtFirst, AtLength, AtSize, AtField, Pending, Reading, Goes, Stops, IsFront, IsAlone, Wants}
+use Rattle.mq_decode.specs.Grammar.{ReadsWithin, Stream, BadLength, Faulty, AtFirst, AtLength, AtSize, AtField, Pending, Reading, Goes, Stops, IsFront, Wants}
+use Rattle.mq_decode.specs.Inside.Grammar.{IsAlone}
 use Rattle.mq_decode.specs.Laws.{ReadsOn}
 use Rattle.mq_decode.proofs.FrontLaws.{parts_of}
 

@@ -15,10 +15,6 @@ use Rattle.mq_decode.specs.Gives.{◌>>=◌}
 abbrev pub bad_at : FaultKind → List ℕ → BadField
 bad_at kind bytes = record { kind = kind; left = length bytes }
 
-abbrev pub byte_at : List ℕ → Result (ℕ × List ℕ) BadField
-byte_at [] = Err (bad_at PastEnd [])
-byte_at (byte ∷ bytes) = Ok (byte, bytes)
-
 -- two bytes (1.5.2)
 unfoldable pub number_at : List ℕ → Result (ℕ × List ℕ) BadField
 number_at bytes = if nat_lt (length bytes) 2 then Err (bad_at PastEnd bytes) else Ok (number_in bytes 0, drop 2 bytes)

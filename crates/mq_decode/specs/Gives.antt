@@ -10,11 +10,6 @@ abbrev pub ◌>>=◌ : {A B : Type 0} → Result A BadField → (A → Result B 
 (Ok x) >>= f = f x
 (Err e) >>= f = Err e
 
--- The result of a function, as contracts see it, is the result of reading.
-abbrev pub Same : {X Y : Type 0} → (X → Y) → Result X BadField → Result Y BadField → Type 0
-Same view (Ok x) read = read ≡ Ok (view x)
-Same view (Err bad) read = read ≡ Err bad
-
 -- the same, unless memory ran out
 abbrev pub Fails : {Y : Type 0} → FieldsError → Result Y BadField → Type 0
 Fails errors.Memory read = Unit {0}

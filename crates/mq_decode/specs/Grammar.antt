@@ -153,10 +153,6 @@ IsFront limits buffer (Ok (Some found)) = (found.1 ≤ length buffer) × ReadsWi
 IsFront limits buffer (Err errors.Memory) = 0 < length buffer
 IsFront limits buffer (Err (errors.Fault fault)) = Faulty limits buffer fault.kind fault.place
 
--- If `buffer` begins with a packet, it has no bytes behind it.
-abbrev pub IsAlone : Bounds → List ℕ → Type 0
-IsAlone limits buffer = (packet : Packet) (first rest : List ℕ) → ReadsWithin limits packet first → buffer ≡ first ++ rest → rest ≡ []
-
 -- Pending bytes are missing at least this many bytes: with fewer they are still pending.
 abbrev pub Wants : Bounds → List ℕ → ℕ → Type 0
 Wants limits buffer count = Pending limits buffer → (more : List ℕ) → length more < count → Pending limits (buffer ++ more)

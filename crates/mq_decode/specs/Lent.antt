@@ -25,16 +25,6 @@ abbrev pub connect_in : Result Connect BadField → Connect
 connect_in (Ok connect) = connect
 connect_in (Err bad) = record { client_id = []; clean_session = false; keep_alive = 0; will = None; login = None }
 
--- The bytes behind the result.
-abbrev pub rest_of : {A : Type 0} → Result (A × List ℕ) BadField → Result (List ℕ) BadField
-rest_of (Ok found) = Ok found.1
-rest_of (Err bad) = Err bad
-
--- A test agrees with a reading: it passes, or reports the same fault.
-abbrev pub Tests : {Y : Type 0} → Result (Unit {0}) BadField → Result Y BadField → Type 0
-Tests (Ok done) read = IsOk read
-Tests (Err bad) read = read ≡ Err bad
-
 -- how many bytes an identifier takes (3.3.2.2)
 abbrev pub delivery_len : Option Delivery → ℕ
 delivery_len None = 0

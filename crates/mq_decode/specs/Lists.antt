@@ -15,7 +15,7 @@ items_at item more [] = Ok []
 items_at item zero (byte ∷ bytes) = Ok []
 items_at item (suc more) (byte ∷ bytes) = item (byte ∷ bytes) >>= λ first. items_at item more first.1 >>= λ rest. Ok (first.0 ∷ rest)
 
--- At least one item. Each takes at least one byte, so there are at most as many as bytes.
+-- At least one item. Each takes at least one byte, so the number of bytes is a limit.
 abbrev pub list_at : {A : Type 0} → (List ℕ → Result (A × List ℕ) BadField) → List ℕ → Result (List A) BadField
 list_at item [] = Err (bad_at EmptyList [])
 list_at item (byte ∷ bytes) = items_at item (length (byte ∷ bytes)) (byte ∷ bytes)

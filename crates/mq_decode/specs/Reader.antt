@@ -1,9 +1,7 @@
 -- Reading a packet from a reader, in terms of the reader's remaining bytes, if they are known.
-use Rattle.std.specs.Prelude.{◌≡◌, ℕ, ◌<◌, List, length, take, Option, Some, None, IfSome, Result, Ok, Err}
+use Rattle.std.specs.Prelude.{◌≡◌, ℕ, ◌<◌, List, length, take, Option, Some, IfSome, Result, Ok, Err}
 use Rattle.std.specs.Io.KnownBytes.{Consumes}
 use Rattle.mq_packet.specs.declared.packet.Packet.{Packet}
-use Rattle.mq_decode.specs.declared.fault.DecodeError.{DecodeError}
-use Rattle.mq_decode.specs.declared.fault.DecodeError.TheVariants as decodes
 use Rattle.mq_decode.specs.declared.read.ReadError.{ReadError}
 use Rattle.mq_decode.specs.declared.read.ReadError.TheVariants as errors
 use Rattle.mq_decode.specs.Limits.{Bounds}
@@ -21,13 +19,6 @@ ReadStops limits left errors.Memory = IfSome left (λ bytes. 0 < length bytes)
 abbrev pub TakesWithin : Bounds → Option (List ℕ) → Option (List ℕ) → Type 0
 TakesWithin limits old new = (taken : List ℕ) × Consumes old new taken × ((count : ℕ) → count < length taken → Pending limits (take count taken))
 
--- A reader without more bytes failed, or an allocation did.
-abbrev pub FillStops : ReadError → Type 0
-FillStops errors.Cut = ⊥
-FillStops (errors.Io error) = Unit {0}
-FillStops (errors.Fault fault) = ⊥
-FillStops errors.Memory = Unit {0}
-
 -- A packet that remained is read, unless the reader or an allocation failed.
 abbrev pub Answers : Packet → List ℕ → Result (Option Packet) ReadError → Option (List ℕ) → Type 0
 Answers packet rest (Ok found) left = (found ≡ Some packet) × (left ≡ Some rest)
@@ -39,14 +30,3 @@ Answers packet rest (Err errors.Memory) left = Unit {0}
 -- The bytes of one packet were taken, and are read as that packet.
 abbrev pub TakesSized : Bounds → Option (List ℕ) → Option (List ℕ) → Packet × ℕ → Type 0
 TakesSized limits old new found = (bytes : List ℕ) × ReadsWithin limits found.0 bytes × Consumes old new bytes × (found.1 ≡ length bytes)
-
--- The packet that was read, without its size.
-abbrev pub without_size : Result (Option (Packet × ℕ)) ReadError → Result (Option Packet) ReadError
-without_size (Ok (Some found)) = Ok (Some found.0)
-without_size (Ok None) = Ok None
-without_size (Err error) = Err error
-
--- the decoder's error, for a reader
-abbrev pub stop_of : DecodeError → ReadError
-stop_of (decodes.Fault fault) = errors.Fault fault
-stop_of decodes.Memory = errors.Memory

@@ -63,7 +63,7 @@ fn pass_ahead(size: usize, bytes: &[u8], ahead: &mut Bytes)
 /// a copy of its bytes and of those ahead. Never inlined: its stack frame would be zeroed for each
 /// other packet.
 #[inline(never)]
-pub(crate) fn take_publish(
+pub(crate) fn shared_publish(
     alloc: Global,
     limits: Limits,
     bytes: &[u8],

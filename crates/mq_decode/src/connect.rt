@@ -2,7 +2,7 @@
 
 ghost use Rattle.std.specs.Prelude.{◌≡◌, true, None, Some, IfOk, IsOk, MatchOption};
 ghost use Rattle.mq_topic.specs.Topic.{is_topic_name};
-ghost use Rattle.mq_decode.specs.Gives.{Same};
+ghost use Rattle.mq_decode.specs.Inside.Gives.{Same};
 ghost use Rattle.mq_decode.specs.Lent.{connect_in};
 ghost use Rattle.mq_decode.specs.Views.{connect_of};
 ghost use Rattle.mq_decode.specs.Connects.{flags_at, protocol_at, level_at, will_at, password_at, login_at, connect_at, is_protocol};

@@ -4,7 +4,7 @@ ghost use Rattle.std.specs.Prelude.{◌≡◌, ◌+◌, ◌≤◌, ◌++◌, ℕ
 ghost use Rattle.mq_decode.specs.Prelude.{result_err, flat_map, Copies, counted_more, counted_next, Goes, IsFront, Pending, ReadsWithin, Stops};
 ghost use Rattle.mq_packet.specs.declared.packet.Packet.TheVariants as packets;
 
-use crate::ahead::{take_next, take_publish};
+use crate::ahead::{shared_publish, take_next};
 use crate::fault::DecodeError;
 use crate::held::Held;
 use crate::laws::pending_is_short;
@@ -122,7 +122,7 @@ impl Decoder {
         if !begins_as_publish(piece) || self.failed.is_some() || !self.held.is_empty() {
             return None;
         }
-        take_publish(self.alloc, self.limits, piece, &mut self.ahead)
+        shared_publish(self.alloc, self.limits, piece, &mut self.ahead)
     }
 
     /// Takes the next complete packet of the stream. Returns it with the number of bytes used of

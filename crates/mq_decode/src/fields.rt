@@ -3,7 +3,7 @@
 
 ghost use Rattle.std.specs.Prelude.{◌≡◌, ◌+◌, ◌<◌, ◌≤◌, slice_range, ℕ, Option, true, length, drop, IfOk, Ok};
 ghost use Rattle.mq_topic.specs.Topic.{is_topic_name, is_topic_filter};
-ghost use Rattle.mq_decode.specs.Gives.{Same};
+ghost use Rattle.mq_decode.specs.Inside.Gives.{Same};
 ghost use Rattle.mq_decode.specs.Fields.{number_at, identifier_at, text_at, name_at, filter_at, binary_at, end_at, text_fault};
 
 use crate::fault::{BadField, FaultKind};

@@ -3,7 +3,8 @@
 ghost use Rattle.std.specs.Prelude.{◌≡◌, ◌+◌, ◌<◌, ◌≤◌, ◌^◌, true, length, drop, slice_range, IfOk, IfSome, IsSome};
 ghost use Rattle.mq_topic.specs.Topic.{is_topic_name};
 ghost use Rattle.mq_packet.specs.Publication.{fits_delivery};
-ghost use Rattle.mq_decode.specs.Gives.{EndsWith, Same};
+ghost use Rattle.mq_decode.specs.Gives.{EndsWith};
+ghost use Rattle.mq_decode.specs.Inside.Gives.{Same};
 ghost use Rattle.mq_decode.specs.Bodies.{identified_at, delivery_at, publish_at};
 ghost use Rattle.mq_decode.specs.Lent.{delivery_len, payload_start};
 

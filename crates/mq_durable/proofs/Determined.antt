@@ -27,8 +27,8 @@ use Rattle.mq_route.specs.declared.reply.HubReply.{HubReply}
 use Rattle.mq_route.specs.Hub.{HubState, HubConnection, without_connection, stage_of, is_open, key_on, up_on, key_of, end_of, with_end, with_left, held_on}
 use Rattle.mq_route.specs.Welcome.{client_of, ends_with, refusal}
 use Rattle.mq_route.specs.Work.{Work, begin, said, with_sessions, shut, put_on, does, have_room, last_will, will_after, remove_if, leaves_behind, shut_down, close}
-use Rattle.mq_route.specs.Arrives.{Growth, due, answers_all, replies, take_over, goes_on, accept_connect, on_connect, on_first_packet, is_too_broad, on_passed_packet, dispatch_packet, touched_on, arrives, noted, takes, closes_by, broken, on_malformed}
-use Rattle.mq_route.specs.Step.{holding, is_open_on, Comes, Arrives, Waits, Breaks, Starves, LetsGo, Ticks, Done, InTime, Late, Does, done, ended, ended_open, expire, told}
+use Rattle.mq_route.specs.Arrives.{Growth, due, answers_all, replies, take_over, goes_on, accept_connect, on_connect, on_first_packet, is_too_broad, on_passed_packet, dispatch_packet, touched_on, arrives, noted, on_packet, closes_by, broken, on_malformed}
+use Rattle.mq_route.specs.Step.{holding, is_open_on, OnBytes, Arrives, Waits, Breaks, Starves, LetsGo, OnTick, Done, InTime, Late, Does, done, on_end, close_if_open, expire, with_clock}
 use Rattle.mq_route.specs.Runs.{Episode, Follows}
 use Rattle.mq_durable.specs.Determined.{ReplayLaws}
 use Rattle.mq_durable.specs.Memory.{lacks_memory, reports_memory}
@@ -130,8 +130,8 @@ arrives_same k p g w quiet = go g.fits g.will_fits quiet
 abbrev logged : Conn → Packet → Work → Work → Work
 logged k p w v = record v { came = v.came ++ noted (key_on (stage_of k w.hub.connections)) (is_open (stage_of k v.hub.connections)) p }
 
-takes_same : (k : Conn) (p : Packet) (g : Growth) (w : Work) → IsQuiet (takes k p g w) → takes k p g w ≡ takes k p all_fit w
-unfolding takes
+takes_same : (k : Conn) (p : Packet) (g : Growth) (w : Work) → IsQuiet (on_packet k p g w) → on_packet k p g w ≡ on_packet k p all_fit w
+unfolding on_packet
 takes_same k p g w quiet = ap (logged k p w) (arrives_same k p g w quiet)
 
 abbrev answered : Conn → DecodeFault → Work → Work
@@ -158,13 +158,13 @@ module _ (reading : OneReading) (laws : ReadsAgain) where
       let ends : ◌≡◌ {A = Option DecodeFault} (Some f) (Some g) = (reading limits b [] [] b c (Some f) (Some g) first_reading again).2 in
       cc
 
-  comes_same : (limits : Bounds) (k : Conn) (b c : List ℕ) (w u v x : Work) → Comes limits k b w v → Comes limits k c u x → b ≡ c → w ≡ u → IsQuiet v → IsQuiet x → v ≡ x
+  comes_same : (limits : Bounds) (k : Conn) (b c : List ℕ) (w u v x : Work) → OnBytes limits k b w v → OnBytes limits k c u x → b ≡ c → w ≡ u → IsQuiet v → IsQuiet x → v ≡ x
   comes_same limits k _ _ _ _ _ _ (Arrives p first rest g w v on reads more) (Arrives q second last h u x opened again later) same start quiet calm =
       let both : (p ≡ q) × (rest ≡ last) = laws.one limits p q first second rest last reads again same in
-      comes_same limits k rest last (takes k p g w) (takes k q h u) v x more later both.1
-      (takes_same k p g w (quiet_before (takes k p g w) v (comes_grow limits k rest (takes k p g w) v more) quiet)
-      ∙ (λ i. takes k (both.0 i) all_fit (start i))
-      ∙ sym (takes_same k q h u (quiet_before (takes k q h u) x (comes_grow limits k last (takes k q h u) x later) calm)))
+      comes_same limits k rest last (on_packet k p g w) (on_packet k q h u) v x more later both.1
+      (takes_same k p g w (quiet_before (on_packet k p g w) v (comes_grow limits k rest (on_packet k p g w) v more) quiet)
+      ∙ (λ i. on_packet k (both.0 i) all_fit (start i))
+      ∙ sym (takes_same k q h u (quiet_before (on_packet k q h u) x (comes_grow limits k last (on_packet k q h u) x later) calm)))
       quiet calm
   comes_same limits k _ _ _ _ _ _ (Arrives p first rest g w v on reads more) (Waits c u opened pending) same start quiet calm = absurd (pending.not_whole p first rest reads (sym same))
   comes_same limits k _ _ _ _ _ _ (Arrives p first rest g w v on reads more) (Breaks c fault fits u opened faulty) same start quiet calm =
@@ -190,7 +190,7 @@ module _ (reading : OneReading) (laws : ReadsAgain) where
   comes_same limits k _ _ _ _ _ _ (Waits b w on pending) (LetsGo c u closed) same start quiet calm = absurd (true≢false (sym on ∙ ap (is_open_on k) start ∙ closed))
   comes_same limits k _ _ _ _ _ _ (Breaks b fault fits w on faulty) (LetsGo c u closed) same start quiet calm = absurd (true≢false (sym on ∙ ap (is_open_on k) start ∙ closed))
 
-  ticks_same : (within : Option ℕ) (now : ℕ) (xs : List HubConnection) (w u v x : Work) → Ticks within now xs w v → Ticks within now xs u x → w ≡ u → IsQuiet v → IsQuiet x → v ≡ x
+  ticks_same : (within : Option ℕ) (now : ℕ) (xs : List HubConnection) (w u v x : Work) → OnTick within now xs w v → OnTick within now xs u x → w ≡ u → IsQuiet v → IsQuiet x → v ≡ x
   ticks_same within now _ _ _ _ _ (Done w) (Done u) start quiet calm = start
   ticks_same within now _ _ _ _ _ (InTime y ys w v soon more) (InTime _ _ u x again later) start quiet calm = ticks_same within now ys w u v x more later start quiet calm
   ticks_same within now _ _ _ _ _ (InTime y ys w v soon more) (Late _ _ why fits u x late later) start quiet calm = absurd (let clash : None ≡ Some why = sym soon ∙ late in cc)
@@ -206,10 +206,10 @@ module _ (reading : OneReading) (laws : ReadsAgain) where
       ∙ sym (close_same y.conn other fit u (quiet_before second x (ticks_grow within now ys second x later) calm)))
       quiet calm
 
-  ended_same : (k : Conn) (fits : Bool) (h : HubState) → IsQuiet (ended k fits h) → ended k fits h ≡ ended k true h
+  ended_same : (k : Conn) (fits : Bool) (h : HubState) → IsQuiet (on_end k fits h) → on_end k fits h ≡ on_end k true h
   ended_same k fits h quiet = go (is_open (stage_of k h.connections)) quiet
     where
-      go : (alive : Bool) → IsQuiet (ended_open k alive fits (begin h)) → forgotten k (ended_open k alive fits (begin h)) ≡ forgotten k (ended_open k alive true (begin h))
+      go : (alive : Bool) → IsQuiet (close_if_open k alive fits (begin h)) → forgotten k (close_if_open k alive fits (begin h)) ≡ forgotten k (close_if_open k alive true (begin h))
       go true quiet = ap (forgotten k) (close_same k PeerEnded fits (begin h) quiet)
       go false quiet = refl
 
@@ -227,12 +227,12 @@ module _ (reading : OneReading) (laws : ReadsAgain) where
       let same : w ≡ v = comes_same h.config.limits k b b start start w v d.0 f.0 refl refl (quiet_reply r (is_open_on k w) w d.1 quiet) (quiet_reply s (is_open_on k v) v f.1 calm) in
       (same, d.1 ∙ ap (λ (x : Work). done (is_open_on k x) x) same ∙ sym f.1)
   does_same h (Ended k) r s w v d f quiet calm =
-      let first : IsQuiet (ended k d.0 h) = subst IsQuiet d.1 (quiet_reply r false w d.2 quiet) in
-      let second : IsQuiet (ended k f.0 h) = subst IsQuiet f.1 (quiet_reply s false v f.2 calm) in
+      let first : IsQuiet (on_end k d.0 h) = subst IsQuiet d.1 (quiet_reply r false w d.2 quiet) in
+      let second : IsQuiet (on_end k f.0 h) = subst IsQuiet f.1 (quiet_reply s false v f.2 calm) in
       let same : w ≡ v = d.1 ∙ ended_same k d.0 h first ∙ sym (ended_same k f.0 h second) ∙ sym f.1 in
       (same, d.2 ∙ ap (λ (x : Work). done false x) same ∙ sym f.2)
   does_same h (Tick now) r s w v d f quiet calm =
-      let start : Work = expire (told now h) in
+      let start : Work = expire (with_clock now h) in
       let same : w ≡ v = ticks_same h.config.connect_within (max h.clock now) h.connections start start w v d.0 f.0 refl (quiet_reply r true w d.1 quiet) (quiet_reply s true v f.1 calm) in
       (same, d.1 ∙ ap (λ (x : Work). done true x) same ∙ sym f.1)
   does_same h (Collect k) r s w v d f quiet calm = (d.0 ∙ sym f.0, d.1 ∙ sym f.1)

@@ -34,9 +34,9 @@ use Rattle.mq_route.specs.declared.connection_state.ConnectionState.TheVariants.
 use Rattle.mq_route.specs.Copies.{will_message, kept}
 use Rattle.mq_route.specs.Hub.{HubState, HubConnection, is_connection, with_connection, without_connection, stage_of, is_open, held_on, up_on, key_of, end_of, with_end, copies_of}
 use Rattle.mq_route.specs.Welcome.{client_of, ends_with, refusal}
-use Rattle.mq_route.specs.Work.{Work, begin, said, with_connections, with_sessions, staged, shut, put_on, put_where, does, publishes_next, place, place_all, have_room, is_missed, deliver, remove, last_will, will_after, remove_if, leaves_behind, shut_down, close, subscribed, unsubscribed, retained_copies}
-use Rattle.mq_route.specs.Arrives.{Growth, granted, due, answers, answers_all, replies, greeting, terms_of, resume_session, new_session, start_session, take_over, goes_on, accept_connect, on_connect, on_first_packet, is_too_broad, on_passed_packet, dispatch_packet, touched, touched_on, arrives, takes, closes_by, broken, on_malformed}
-use Rattle.mq_route.specs.Step.{holding, Comes, Arrives, Waits, Breaks, Starves, LetsGo, Ticks, Done, InTime, Late, Does, HubStep, ended_open, expire, expired_keys, remove_all, told}
+use Rattle.mq_route.specs.Work.{Work, begin, said, with_connections, with_sessions, staged, shut, put_on, put_where, does, publishes_next, enqueue, enqueue_all, have_room, is_missed, deliver, remove, last_will, will_after, remove_if, leaves_behind, shut_down, close, subscribed, unsubscribed, retained_copies}
+use Rattle.mq_route.specs.Arrives.{Growth, granted, due, answers, answers_all, replies, greeting, terms_of, resume_session, new_session, start_session, take_over, goes_on, accept_connect, on_connect, on_first_packet, is_too_broad, on_passed_packet, dispatch_packet, touched, touched_on, arrives, on_packet, closes_by, broken, on_malformed}
+use Rattle.mq_route.specs.Step.{holding, OnBytes, Arrives, Waits, Breaks, Starves, LetsGo, OnTick, Done, InTime, Late, Does, HubStep, close_if_open, expire, expired_keys, remove_all, with_clock}
 use Rattle.mq_route.specs.Routed.{same_conn}
 
 -- the names of the connections, and the clock
@@ -69,15 +69,15 @@ unfolding does
 does_stays key move w =
     where_stays (up_on key w.hub.connections) (move (end_of key w.hub.sessions)).out (with_sessions (with_end key (move (end_of key w.hub.sessions)).end) w)
 
-place_stays : (key : ℕ) (m : Message) (w : Work) → frame (place key m w).hub ≡ frame w.hub
-unfolding place
+place_stays : (key : ℕ) (m : Message) (w : Work) → frame (enqueue key m w).hub ≡ frame w.hub
+unfolding enqueue
 place_stays key m w =
     cond_both (is_missed key m w.hub) (said (acts.Missed key m) w) (said (acts.Placed key m) (does key (publishes_next m) w)) (λ v. frame v.hub ≡ frame w.hub)
     (λ missed. refl) (λ room. does_stays key (publishes_next m) w)
 
-places_stay : (copies : List (ℕ × Message)) (w : Work) → frame (place_all copies w).hub ≡ frame w.hub
+places_stay : (copies : List (ℕ × Message)) (w : Work) → frame (enqueue_all copies w).hub ≡ frame w.hub
 places_stay [] w = refl
-places_stay (x ∷ xs) w = places_stay xs (place x.0 x.1 w) ∙ place_stays x.0 x.1 w
+places_stay (x ∷ xs) w = places_stay xs (enqueue x.0 x.1 w) ∙ place_stays x.0 x.1 w
 
 deliver_stays : (act : Act) (m : Message) (w : Work) → frame (deliver act m w).hub ≡ frame w.hub
 unfolding deliver
@@ -199,8 +199,8 @@ arrives_stay k p g w =
     cond_both g.fits (dispatch_packet k p g.will_fits s (touched_on k w)) (close k (Own reasons.Memory) g.will_fits w) (λ v. frame v.hub ≡ frame w.hub)
     (λ fits. dispatch_stays k p g.will_fits s (touched_on k w) ∙ line_stays (λ x. record x { stage = touched w.hub.clock x.stage }) (λ x. refl) k w) (λ starved. close_stays k (Own reasons.Memory) g.will_fits w)
 
-takes_stay : (k : Conn) (p : Packet) (g : Growth) (w : Work) → frame (takes k p g w).hub ≡ frame w.hub
-unfolding takes
+takes_stay : (k : Conn) (p : Packet) (g : Growth) (w : Work) → frame (on_packet k p g w).hub ≡ frame w.hub
+unfolding on_packet
 takes_stay k p g w = arrives_stay k p g w
 
 malformed_stays : (k : Conn) (fault : DecodeFault) (fits : Bool) (w : Work) → frame (on_malformed k fault fits w).hub ≡ frame w.hub
@@ -216,14 +216,14 @@ malformed_stays k fault fits w = go (broken k fault w).close
 holding_stays : (k : Conn) (b : List ℕ) (w : Work) → frame (holding k b w).hub ≡ frame w.hub
 holding_stays k b w = line_stays (λ x. record x { held = b }) (λ x. refl) k w
 
-comes_stay : (limits : Bounds) (k : Conn) (b : List ℕ) (w w2 : Work) → Comes limits k b w w2 → frame w2.hub ≡ frame w.hub
-comes_stay limits k b w w2 (Arrives p first rest g v v2 on reads more) = comes_stay limits k rest (takes k p g v) v2 more ∙ takes_stay k p g v
+comes_stay : (limits : Bounds) (k : Conn) (b : List ℕ) (w w2 : Work) → OnBytes limits k b w w2 → frame w2.hub ≡ frame w.hub
+comes_stay limits k b w w2 (Arrives p first rest g v v2 on reads more) = comes_stay limits k rest (on_packet k p g v) v2 more ∙ takes_stay k p g v
 comes_stay limits k b w w2 (Waits c v on pending) = holding_stays k c v
 comes_stay limits k b w w2 (Breaks c fault fits v on faulty) = malformed_stays k fault fits v
 comes_stay limits k b w w2 (Starves c fits v on some) = close_stays k (Own reasons.Memory) fits v
 comes_stay limits k b w w2 (LetsGo c v closed) = refl
 
-ticks_stay : (within : Option ℕ) (now : ℕ) (xs : List HubConnection) (w w2 : Work) → Ticks within now xs w w2 → frame w2.hub ≡ frame w.hub
+ticks_stay : (within : Option ℕ) (now : ℕ) (xs : List HubConnection) (w w2 : Work) → OnTick within now xs w w2 → frame w2.hub ≡ frame w.hub
 ticks_stay within now xs w w2 (Done v) = refl
 ticks_stay within now xs w w2 (InTime x ys v v2 soon more) = ticks_stay within now ys v v2 more
 ticks_stay within now xs w w2 (Late x ys why fits v v2 late more) = ticks_stay within now ys (close x.conn why fits v) v2 more ∙ close_stays x.conn why fits v
@@ -237,7 +237,7 @@ expire_stays : (h : HubState) → frame (expire h).hub ≡ frame h
 unfolding expire
 expire_stays h = removals_stay (expired_keys h) (begin h)
 
-ended_stays : (k : Conn) (alive fits : Bool) (w : Work) → frame (ended_open k alive fits w).hub ≡ frame w.hub
+ended_stays : (k : Conn) (alive fits : Bool) (w : Work) → frame (close_if_open k alive fits w).hub ≡ frame w.hub
 ended_stays k true fits w = close_stays k PeerEnded fits w
 ended_stays k false fits w = refl
 
@@ -274,11 +274,11 @@ does_frame h (Opened k) r w d =
     ∙ ap (λ (ns : List Conn). (ns, h.clock)) (map-append (λ (x : HubConnection). x.conn) h.connections (record { conn = k; stage = AwaitingConnect; held = []; waiting = []; since = h.clock } ∷ []))
 does_frame h (Bytes k piece) r w d = comes_stay h.config.limits k (held_on k h.connections ++ piece) (holding k [] (begin h)) w d.0 ∙ holding_stays k [] (begin h)
 does_frame h (Ended k) r w d =
-    let v = ended_open k (is_open (stage_of k h.connections)) d.0 (begin h) in
+    let v = close_if_open k (is_open (stage_of k h.connections)) d.0 (begin h) in
     let same = ended_stays k (is_open (stage_of k h.connections)) d.0 (begin h) in
     ap (λ (u : Work). frame u.hub) d.1
     ∙ ap₂ (λ (ns : List Conn) (n : ℕ). (ns, n)) (without_names k v.hub.connections h.connections (ap (λ (f : List Conn × ℕ). f.0) same)) (ap (λ (f : List Conn × ℕ). f.1) same)
-does_frame h (Tick now) r w d = ticks_stay h.config.connect_within (max h.clock now) h.connections (expire (told now h)) w d.0 ∙ expire_stays (told now h)
+does_frame h (Tick now) r w d = ticks_stay h.config.connect_within (max h.clock now) h.connections (expire (with_clock now h)) w d.0 ∙ expire_stays (with_clock now h)
 does_frame h (Collect k) r w d =
     ap (λ (v : Work). frame v.hub) d.0 ∙ ap (λ (ns : List Conn). (ns, h.clock)) (named (λ x. record x { waiting = [] }) (λ x. refl) k h.connections)
 

@@ -29,9 +29,9 @@ use Rattle.mq_route.specs.declared.connection_state.ConnectionState.TheVariants.
 use Rattle.mq_route.specs.Copies.{will_message, kept}
 use Rattle.mq_route.specs.Hub.{HubConnection, stage_of, up_on, key_of, end_of, with_end, copies_of}
 use Rattle.mq_route.specs.Welcome.{client_of, ends_with, refusal}
-use Rattle.mq_route.specs.Work.{Work, said, with_sessions, staged, shut, put_on, put_where, does, publishes_next, is_missed, place, place_all, have_room, deliver, remove, last_will, will_after, remove_if, leaves_behind, shut_down, close, subscribed, unsubscribed, retained_copies}
-use Rattle.mq_route.specs.Arrives.{Growth, granted, due, answers, answers_all, replies, greeting, terms_of, resume_session, new_session, start_session, take_over, goes_on, accept_connect, on_connect, on_first_packet, is_too_broad, on_passed_packet, dispatch_packet, touched_on, arrives, takes, closes_by, broken, on_malformed}
-use Rattle.mq_route.specs.Step.{holding, Comes, Arrives, Waits, Breaks, Starves, LetsGo, Ticks, Done, InTime, Late}
+use Rattle.mq_route.specs.Work.{Work, said, with_sessions, staged, shut, put_on, put_where, does, publishes_next, is_missed, enqueue, enqueue_all, have_room, deliver, remove, last_will, will_after, remove_if, leaves_behind, shut_down, close, subscribed, unsubscribed, retained_copies}
+use Rattle.mq_route.specs.Arrives.{Growth, granted, due, answers, answers_all, replies, greeting, terms_of, resume_session, new_session, start_session, take_over, goes_on, accept_connect, on_connect, on_first_packet, is_too_broad, on_passed_packet, dispatch_packet, touched_on, arrives, on_packet, closes_by, broken, on_malformed}
+use Rattle.mq_route.specs.Step.{holding, OnBytes, Arrives, Waits, Breaks, Starves, LetsGo, OnTick, Done, InTime, Late}
 use Rattle.mq_durable.specs.Memory.{lacks_memory}
 
 -- the second has the acts of the first, and then more
@@ -61,25 +61,25 @@ does_grows key move w =
     let v : Work = with_sessions (with_end key (move (end_of key w.hub.sessions)).end) w in
     where_grows (up_on key w.hub.connections) (move (end_of key w.hub.sessions)).out v
 
-place_grows : (key : ℕ) (m : Message) (w : Work) → Grows w (place key m w)
-unfolding place
+place_grows : (key : ℕ) (m : Message) (w : Work) → Grows w (enqueue key m w)
+unfolding enqueue
 place_grows key m w =
     let v : Work = does key (publishes_next m) w in
     cond_both (is_missed key m w.hub) (said (acts.Missed key m) w) (said (acts.Placed key m) v) (Grows w)
     (λ missed. one (acts.Missed key m) w)
     (λ room. chain w v (said (acts.Placed key m) v) (does_grows key (publishes_next m) w) (one (acts.Placed key m) v))
 
-places_grow : (copies : List (ℕ × Message)) (w : Work) → Grows w (place_all copies w)
+places_grow : (copies : List (ℕ × Message)) (w : Work) → Grows w (enqueue_all copies w)
 places_grow [] w = still w w refl
 places_grow (x ∷ xs) w =
-    let v : Work = place x.0 x.1 w in
-    chain w v (place_all xs v) (place_grows x.0 x.1 w) (places_grow xs v)
+    let v : Work = enqueue x.0 x.1 w in
+    chain w v (enqueue_all xs v) (place_grows x.0 x.1 w) (places_grow xs v)
 
 deliver_grows : (a : Act) (m : Message) (w : Work) → Grows w (deliver a m w)
 unfolding deliver
 deliver_grows a m w =
     let v : Work = said a (record w { hub = record w.hub { retained = kept m w.hub.retained } }) in
-    chain w v (place_all (copies_of m w.hub) v) (a ∷ [], refl) (places_grow (copies_of m w.hub) v)
+    chain w v (enqueue_all (copies_of m w.hub) v) (a ∷ [], refl) (places_grow (copies_of m w.hub) v)
 
 -- ---- closes
 
@@ -135,8 +135,8 @@ answer_grows k key (happens.Handed m) w = deliver_grows (acts.Took key m) m w
 answer_grows k key (happens.Subscribe i requests) w =
     let u : Work = subscribed key requests w in
     let v : Work = does key (subacks i (granted requests)) u in
-    chain w u (place_all (retained_copies key requests w.hub.retained) v) (subscribed_grows key requests w)
-    (chain u v (place_all (retained_copies key requests w.hub.retained) v) (does_grows key (subacks i (granted requests)) u) (places_grow (retained_copies key requests w.hub.retained) v))
+    chain w u (enqueue_all (retained_copies key requests w.hub.retained) v) (subscribed_grows key requests w)
+    (chain u v (enqueue_all (retained_copies key requests w.hub.retained) v) (does_grows key (subacks i (granted requests)) u) (places_grow (retained_copies key requests w.hub.retained) v))
 answer_grows k key (happens.Unsubscribe i filters) w =
     let u : Work = unsubscribed key filters w in
     chain w u (does key (unsubacks i) u) (unsubscribed_grows key filters w) (does_grows key (unsubacks i) u)
@@ -225,8 +225,8 @@ arrives_grows k p g w =
     (λ fits. chain w v (dispatch_packet k p g.will_fits s v) (still w v refl) (dispatch_grows k p g.will_fits s v))
     (λ starved. close_grows k (Own reasons.Memory) g.will_fits w)
 
-takes_grows : (k : Conn) (p : Packet) (g : Growth) (w : Work) → Grows w (takes k p g w)
-unfolding takes
+takes_grows : (k : Conn) (p : Packet) (g : Growth) (w : Work) → Grows w (on_packet k p g w)
+unfolding on_packet
 takes_grows k p g w = arrives_grows k p g w
 
 malformed_grows : (k : Conn) (fault : DecodeFault) (fits : Bool) (w : Work) → Grows w (on_malformed k fault fits w)
@@ -241,14 +241,14 @@ malformed_grows k fault fits w = go (broken k fault w).close
 
 -- ---- events
 
-pub comes_grow : (limits : Bounds) (k : Conn) (b : List ℕ) (w v : Work) → Comes limits k b w v → Grows w v
-comes_grow limits k b w v (Arrives p first rest g u x on reads more) = chain u (takes k p g u) x (takes_grows k p g u) (comes_grow limits k rest (takes k p g u) x more)
+pub comes_grow : (limits : Bounds) (k : Conn) (b : List ℕ) (w v : Work) → OnBytes limits k b w v → Grows w v
+comes_grow limits k b w v (Arrives p first rest g u x on reads more) = chain u (on_packet k p g u) x (takes_grows k p g u) (comes_grow limits k rest (on_packet k p g u) x more)
 comes_grow limits k b w v (Waits c u on pending) = still u (holding k c u) refl
 comes_grow limits k b w v (Breaks c fault fits u on faulty) = malformed_grows k fault fits u
 comes_grow limits k b w v (Starves c fits u on some) = close_grows k (Own reasons.Memory) fits u
 comes_grow limits k b w v (LetsGo c u closed) = still u u refl
 
-pub ticks_grow : (within : Option ℕ) (now : ℕ) (xs : List HubConnection) (w v : Work) → Ticks within now xs w v → Grows w v
+pub ticks_grow : (within : Option ℕ) (now : ℕ) (xs : List HubConnection) (w v : Work) → OnTick within now xs w v → Grows w v
 ticks_grow within now xs w v (Done u) = still u u refl
 ticks_grow within now xs w v (InTime x ys u z soon more) = ticks_grow within now ys u z more
 ticks_grow within now xs w v (Late x ys why fits u z late more) =

@@ -24,7 +24,8 @@ use Rattle.mq_durable.specs.Recorded.{events_in, events_of}
 use Rattle.mq_durable.specs.declared.fault.StepRefusal.{StepRefusal}
 use Rattle.mq_durable.specs.declared.fault.StepRefusal.TheVariants as steps
 use Rattle.mq_durable.specs.Calls.{Collected, Continued, MakesCall, Stepped}
-use Rattle.mq_durable.specs.State.{DurableState, IsDurable, IsKept, IsHubRefusal, IsNotStepped, IsStepRefused, after_step, reply_in}
+use Rattle.mq_durable.specs.State.{DurableState, IsDurable, IsKept, IsHubRefusal, IsStepRefused, after_step, reply_in}
+use Rattle.mq_durable.specs.Inside.State.{IsNotStepped}
 use Rattle.mq_durable.proofs.Entries.{entry_push, found_push, is_empty, no_entry, none_found, of_none, of_push, readable_none, readable_push}
 use Rattle.mq_durable.proofs.Runs.{reaches_collect, reaches_none, reaches_push, reaches_so}
 

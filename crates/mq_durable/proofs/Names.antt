@@ -9,7 +9,8 @@ use Rattle.mq_route.specs.declared.reply.HubReply.{HubReply}
 use Rattle.mq_route.specs.Hub.{HubState, HubConnection, knows, without_connection}
 use Rattle.mq_route.specs.Routed.{same_conn}
 use Rattle.mq_route.specs.Step.{HubStep}
-use Rattle.mq_durable.specs.Recovering.{is_among, AreKnownAmong, later, opened_by}
+use Rattle.mq_durable.specs.Recovering.{is_among, AreKnownAmong, later}
+use Rattle.mq_durable.specs.Inside.Recovering.{opened_by}
 use Rattle.mq_durable.proofs.Frames.{frame, framed, step_frame}
 
 one_conn : (a b : Conn) → same_conn a b ≡ true → a ≡ b

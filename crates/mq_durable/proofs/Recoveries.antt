@@ -16,9 +16,11 @@ use Rattle.mq_route.specs.Step.{HubStep}
 use Rattle.mq_record.specs.Reading.{IsEntry}
 use Rattle.mq_log.specs.declared.reader.Tail.TheVariants.{Closed, Torn, CutShort, Damaged}
 use Rattle.mq_log.specs.Blocks.{entries, gate, tail_of, stored_length}
-use Rattle.mq_durable.specs.Recorded.{AreReadable, events_in, events_in_all, events_of, IsReadable}
+use Rattle.mq_durable.specs.Recorded.{events_in, events_of, IsReadable}
+use Rattle.mq_durable.specs.Inside.Recorded.{AreReadable, events_in_all}
 use Rattle.mq_durable.specs.declared.progress.Progress.{Progress}
-use Rattle.mq_durable.specs.Recovering.{AreEnds, AreKnownAmong, Continues, HasEnded, is_end, later, latest, opened_by}
+use Rattle.mq_durable.specs.Recovering.{AreEnds, AreKnownAmong, Continues, HasEnded, is_end, later, latest}
+use Rattle.mq_durable.specs.Inside.Recovering.{opened_by}
 use Rattle.mq_durable.specs.Replaying.{Replays}
 use Rattle.mq_durable.proofs.Names.{ended_known, step_clock, step_known}
 use Rattle.mq_durable.proofs.Runs.{replays_all, replays_none}

@@ -6,3 +6,4 @@ pub mod Recorded
 pub mod Recovering
 pub mod Replaying
 pub mod State
+pub mod Inside

@@ -1,4 +1,4 @@
--- What the source files of this crate cite. It declares nothing itself.
+-- The names that the source files of this crate cite. It declares none of its own.
 pub use Rattle.mq_log.specs.Blocks.{at_rest, gate, rest}
 pub use Rattle.mq_log.specs.Disk.{LeavesOnly, Only}
 pub use Rattle.mq_log.specs.Journal.{IsSettled}
@@ -12,8 +12,11 @@ pub use Rattle.mq_route.specs.declared.event.HubEvent.TheVariants.{Bytes, Collec
 pub use Rattle.mq_durable.specs.Calls.{Collected, Committed, Continued, MakesCall, Stepped, DurableLaws}
 pub use Rattle.mq_durable.specs.Determined.{ReplayLaws}
 pub use Rattle.mq_durable.specs.Memory.{is_for_memory, is_memory, lacks_memory, reports_memory}
-pub use Rattle.mq_durable.specs.Recorded.{AfterCrash, HoldsAllOrNone, events_of, AreReadable, events_in, events_in_all, IsReadable}
-pub use Rattle.mq_durable.specs.Recovering.{Continues, opened_by, AreKnownAmong, HasEnded, latest}
+pub use Rattle.mq_durable.specs.Recorded.{AfterCrash, HoldsAllOrNone, events_of, events_in, IsReadable}
+pub use Rattle.mq_durable.specs.Inside.Recorded.{AreReadable, events_in_all}
+pub use Rattle.mq_durable.specs.Recovering.{Continues, AreKnownAmong, HasEnded, latest}
+pub use Rattle.mq_durable.specs.Inside.Recovering.{opened_by}
 pub use Rattle.mq_durable.specs.Replaying.{Replays}
-pub use Rattle.mq_durable.specs.State.{FollowsJournal, IsCommitRefused, IsStepRefused, after_failure, after_step, reply_in, IsNotNoted, IsNotStepped, after_refusal, after_sound_step}
+pub use Rattle.mq_durable.specs.State.{FollowsJournal, IsCommitRefused, IsStepRefused, after_failure, after_step, reply_in, after_refusal, after_sound_step}
+pub use Rattle.mq_durable.specs.Inside.State.{IsNotNoted, IsNotStepped}
 pub use Rattle.mq_durable.specs.declared.condition.Condition.TheVariants.{Sound, Broken}

@@ -1,6 +1,5 @@
 -- The events that are recorded in an entry, and in the file of a journal.
-use Rattle.std.specs.Prelude.{◌≡◌, ◌≢◌, ◌⊎◌, ℕ, List, [], ◌∷◌, ◌++◌, drop, Vec, Result, Ok, Err}
-use Rattle.std.specs.declared.alloc.Global.{Global}
+use Rattle.std.specs.Prelude.{◌≡◌, ◌≢◌, ◌⊎◌, ℕ, List, [], ◌∷◌, ◌++◌, drop, Result, Ok, Err}
 use Rattle.std.specs.List.{flat_map, AllByRecursion}
 use Rattle.mq_route.specs.declared.event.HubEvent.{HubEvent}
 use Rattle.mq_record.specs.declared.fault.RecordFault.{RecordFault}
@@ -22,10 +21,6 @@ events_within (_ ∷ bound) bytes =
 unfoldable pub events_in : List ℕ → List HubEvent
 events_in entry = events_within entry entry
 
--- the events of several entries, in order
-unfoldable pub events_in_all : List (Vec ℕ Global) → List HubEvent
-events_in_all all = flat_map (λ v. events_in v.items) all
-
 -- the events of a file, in order
 unfoldable pub events_of : List ℕ → List HubEvent
 events_of file = flat_map events_in (entries file)
@@ -33,10 +28,6 @@ events_of file = flat_map events_in (entries file)
 -- each entry of a file is the encodings of its events, and nothing else
 abbrev pub IsReadable : List ℕ → Type 0
 IsReadable file = AllByRecursion (λ entry. IsEntry (events_in entry) entry) (entries file)
-
--- each of these entries is the encodings of its events, and nothing else
-abbrev pub AreReadable : List (Vec ℕ Global) → Type 0
-AreReadable all = AllByRecursion (λ v. IsEntry (events_in v.items) v.items) all
 
 -- A crash left the events that were recorded before, or these and the pending ones. It left no
 -- entry that cannot be read, and no open gate behind the entries.

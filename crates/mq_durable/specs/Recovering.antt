@@ -1,5 +1,5 @@
 -- The broker that is recovered from a journal.
-use Rattle.std.specs.Prelude.{◌≡◌, ℕ, Bool, true, false, max, List, [], ◌∷◌, ◌++◌}
+use Rattle.std.specs.Prelude.{◌≡◌, ℕ, Bool, true, false, max, List, [], ◌∷◌}
 use Rattle.std.specs.List.{AllByRecursion, list_any}
 use Rattle.mq_route.specs.declared.conn.Conn.{Conn}
 use Rattle.mq_route.specs.declared.event.HubEvent.{HubEvent}
@@ -41,14 +41,6 @@ later time (Collect conn) = time
 abbrev pub latest : ℕ → List HubEvent → ℕ
 latest time [] = time
 latest time (event ∷ events) = latest (later time event) events
-
--- the connections that events opened, with the one that an event opens
-abbrev pub opened_by : HubEvent → List Conn → List Conn
-opened_by (Opened conn) conns = conns ++ conn ∷ []
-opened_by (Bytes conn piece) conns = conns
-opened_by (Ended conn) conns = conns
-opened_by (Tick now) conns = conns
-opened_by (Collect conn) conns = conns
 
 -- the connections of the broker are among those that are listed
 abbrev pub IsRecovering : Progress → Type 0

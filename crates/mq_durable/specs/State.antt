@@ -81,18 +81,6 @@ after_failure why condition = condition
 abbrev pub IsHubRefusal : HubState → HubEvent → HubRefusal → Type 0
 IsHubRefusal hub event why = (why ≡ refusals.Memory) ⊎ (event_refusal event hub ≡ Some why)
 
--- Why an event is not encoded behind an entry.
-abbrev pub IsNotNoted : List ℕ → HubEvent → StepRefusal → Type 0
-IsNotNoted entry event (steps.Hub why) = why ≡ refusals.Memory
-IsNotNoted entry event steps.EntryFull = 2 ^ 32 ≤ length entry + length (event_bytes event)
-IsNotNoted entry event steps.Broken = ⊥
-
--- Why a step is not made, if no commit failed before.
-abbrev pub IsNotStepped : List ℕ → HubState → HubEvent → StepRefusal → Type 0
-IsNotStepped entry hub event (steps.Hub why) = IsHubRefusal hub event why
-IsNotStepped entry hub event steps.EntryFull = 2 ^ 32 ≤ length entry + length (event_bytes event)
-IsNotStepped entry hub event steps.Broken = ⊥
-
 -- Why a step is refused.
 abbrev pub IsStepRefused : {D : Type 0} → DurableState D → HubEvent → StepRefusal → Type 0
 IsStepRefused durable event (steps.Hub why) = IsHubRefusal durable.hub event why

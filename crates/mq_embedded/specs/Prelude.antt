@@ -1,4 +1,4 @@
--- What the source files of this crate cite. It declares nothing itself.
+-- The names that the source files of this crate cite. It declares none of its own.
 pub use Rattle.std.specs.List.{flat_map}
 pub use Rattle.mq_bytes.specs.Arguments.{IsLoginOf, IsMessageOf, IsPasswordOf, IsWillOf}
 pub use Rattle.mq_bytes.specs.Buffers.{Filled}

@@ -19,7 +19,7 @@ use Rattle.mq_end.specs.declared.state.State.TheVariants.{Disconnected, Connecti
 use Rattle.mq_end.specs.declared.happening.Happening.TheVariants as happens
 use Rattle.mq_end.specs.declared.reason.CloseReason.{CloseReason}
 use Rattle.mq_end.specs.declared.reason.CloseReason.TheVariants as reasons
-use Rattle.mq_end.specs.End.{End, Reply, silent, tells, over, closes, comes_up, followed, is_up}
+use Rattle.mq_end.specs.End.{End, Reply, silent, reports_event, over, closes, becomes_connected, followed, is_up}
 use Rattle.mq_end.specs.Both.{stores, publish_gets, flow_gets}
 use Rattle.mq_end.specs.Client.{connack_gets, client_open_gets, client_up_gets, client_gets_in, client_gets_all}
 use Rattle.mq_end.specs.Server.{connect_gets, refuses, server_open_gets, server_up_gets, server_gets_in, server_gets_all}
@@ -54,7 +54,7 @@ connack_over : (a : ConnAck) (e : End) → EndsOver e (connack_gets a e)
 connack_over (connacks.Refused code) e = λ r h. refl
 connack_over (connacks.Accepted present) e =
     cond_both (e.clean && present) (closes reasons.Unexpected e) _ (EndsOver e) (λ t r h. refl)
-    (λ f. cond_both (not e.clean && (e.known && not present)) (closes reasons.SessionLost e) (comes_up [] present e) (EndsOver e) (λ t r h. refl) (λ f r h. stays e _ r h))
+    (λ f. cond_both (not e.clean && (e.known && not present)) (closes reasons.SessionLost e) (becomes_connected [] present e) (EndsOver e) (λ t r h. refl) (λ f r h. stays e _ r h))
 
 client_open_over : (p : Packet) (e : End) → EndsOver e (client_open_gets p e)
 client_open_over (packets.ConnAck a) e = connack_over a e
@@ -62,9 +62,9 @@ client_open_over p e = λ r h. refl
 
 client_up_over : (p : Packet) (e : End) → EndsOver e (client_up_gets p e)
 client_up_over (packets.SubAck i codes) e =
-    cond_both (awaits_suback i (length codes) e.book) (tells (happens.SubAck i codes) (record e { book = release i e.book })) (closes reasons.Unexpected e) (EndsOver e) (λ t r h. stays e _ r h) (λ f r h. refl)
+    cond_both (awaits_suback i (length codes) e.book) (reports_event (happens.SubAck i codes) (record e { book = release i e.book })) (closes reasons.Unexpected e) (EndsOver e) (λ t r h. stays e _ r h) (λ f r h. refl)
 client_up_over (packets.UnsubAck i) e =
-    cond_both (awaits_unsuback i e.book) (tells (happens.UnsubAck i) (record e { book = release i e.book })) (closes reasons.Unexpected e) (EndsOver e) (λ t r h. stays e _ r h) (λ f r h. refl)
+    cond_both (awaits_unsuback i e.book) (reports_event (happens.UnsubAck i) (record e { book = release i e.book })) (closes reasons.Unexpected e) (EndsOver e) (λ t r h. stays e _ r h) (λ f r h. refl)
 client_up_over packets.PingResp e = λ r h. stays e _ r h
 client_up_over p e = flow_over p e
 

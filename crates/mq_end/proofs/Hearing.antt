@@ -15,7 +15,8 @@ use Rattle.mq_end.specs.declared.progress_builder.ProgressBuilder.{ProgressBuild
 use Rattle.mq_end.specs.End.{End, Reply, is_live, is_up, first_reason, followed, closes}
 use Rattle.mq_end.specs.Server.{level_refused}
 use Rattle.mq_end.specs.State.{EndState, PutsOut, is_level}
-use Rattle.mq_end.specs.Receiving.{Acts, Receives, ReceivesAs, Shows, Makes, Taken, Hears, HearsAt, HeardAs, IsBreak, held_after, heard_as, gets_as, faulted_as}
+use Rattle.mq_end.specs.Receiving.{Acts, Receives, Shows, Makes, Taken, Hears, HearsAt, HeardAs, held_after, gets_as, faulted_as}
+use Rattle.mq_end.specs.Inside.Receiving.{ReceivesAs, IsBreak, heard_as}
 use Rattle.mq_end.proofs.Replies.{makes_then, quiet}
 use Rattle.mq_end.proofs.Received.{received_shut, received_all, received_fault, received_fault_starved, received_starved}
 

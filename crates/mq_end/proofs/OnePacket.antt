@@ -11,7 +11,8 @@ use Rattle.mq_end.specs.declared.progress_builder.ProgressBuilder.{ProgressBuild
 use Rattle.mq_end.specs.End.{Reply, closes}
 use Rattle.mq_end.specs.Server.{server_gets}
 use Rattle.mq_end.specs.State.{EndState, PutsOut}
-use Rattle.mq_end.specs.Receiving.{Gives, Makes, Shows, TakesAs, TakesPacket, gets_as, heard_as, heard_one, heard_one_as, held_after}
+use Rattle.mq_end.specs.Receiving.{Gives, Makes, Shows, TakesAs, TakesPacket, gets_as, heard_one, heard_one_as, held_after}
+use Rattle.mq_end.specs.Inside.Receiving.{heard_as}
 use Rattle.mq_end.proofs.Walking.{Came}
 
 -- The visible effect of a reply that was made, and of a packet whose reply it is.

@@ -12,7 +12,8 @@ use Rattle.mq_end.specs.End.{End, closes}
 use Rattle.mq_end.specs.Client.{client_open_gets, connack_gets}
 use Rattle.mq_end.specs.Server.{server_open_gets, level_refused}
 use Rattle.mq_end.specs.Inside.Opening.{connack_in, terms_get, terms_in}
-use Rattle.mq_end.specs.Receiving.{faulted_as, is_answered}
+use Rattle.mq_end.specs.Receiving.{faulted_as}
+use Rattle.mq_end.specs.Inside.Receiving.{is_answered}
 
 pub client_with : (p : Packet) (e : End) (answer : ConnAck) → connack_in p ≡ Some answer → client_open_gets p e ≡ connack_gets answer e
 client_with (packets.ConnAck a) e answer h = ap (λ (o : Option ConnAck). elim o [ Some x ↦ connack_gets x e | None ↦ connack_gets answer e ]) h

@@ -9,7 +9,7 @@ use Rattle.mq_packet.specs.declared.message.Message.{Message}
 use Rattle.mq_packet.specs.declared.publish.Delivery.{Delivery}
 use Rattle.mq_packet.specs.declared.packet.Packet.{Packet}
 use Rattle.mq_packet.specs.declared.packet.Packet.TheVariants as packets
-use Rattle.mq_flow.specs.declared.entry.Entry.{Entry}
+use Rattle.mq_flow.specs.declared.entry.SenderEntry.{SenderEntry}
 use Rattle.mq_flow.specs.declared.claim.Claimed.{Claimed}
 use Rattle.mq_flow.specs.Sender.{SenderBook, uses, accept, is_awaited, is_full, same_qos, without_entry, on_puback, on_pubrec, on_pubcomp}
 use Rattle.mq_flow.specs.Window.{fits_window}
@@ -102,9 +102,9 @@ first_accepted limit capacity m ms e h =
 
 length_uses : (b : SenderBook) → length (uses b) ≡ length b.entries + (length b.released + length b.claimed)
 length_uses b =
-    let e = length-map b.entries (λ (e : Entry). e.id) in
+    let e = length-map b.entries (λ (e : SenderEntry). e.id) in
     let c = length-map b.claimed (λ (c : Claimed). c.id) in
-    let whole = length-append (map (λ (e : Entry). e.id) b.entries) (b.released ++ map (λ (c : Claimed). c.id) b.claimed) in
+    let whole = length-append (map (λ (e : SenderEntry). e.id) b.entries) (b.released ++ map (λ (c : Claimed). c.id) b.claimed) in
     let back = length-append b.released (map (λ (c : Claimed). c.id) b.claimed) in
     omega arith
 
@@ -153,12 +153,12 @@ filter_fewer p (x ∷ xs) = by (p x) (filter_fewer p xs)
     by false h = omega arith
 
 -- A pending message is removed.
-awaited_out : (q : Qos) (i : ℕ) (es : List Entry) → is_awaited q i es ≡ true → length (without_entry i es) + 1 ≤ length es
+awaited_out : (q : Qos) (i : ℕ) (es : List SenderEntry) → is_awaited q i es ≡ true → length (without_entry i es) + 1 ≤ length es
 awaited_out q i [] h = absurd cc
 awaited_out q i (e ∷ es) h = by (same_qos q e.message.qos) (eqb e.id i) e.sent (λ k. awaited_out q i es k) h
   where
     by : (a b s : Bool) → (is_awaited q i es ≡ true → length (without_entry i es) + 1 ≤ length es) → ((a && (b && s)) || is_awaited q i es) ≡ true → length (cond (not b) (e ∷ without_entry i es) (without_entry i es)) + 1 ≤ length (e ∷ es)
-    by a true s rest k = let few = filter_fewer (λ (e : Entry). not (eqb e.id i)) es in omega arith
+    by a true s rest k = let few = filter_fewer (λ (e : SenderEntry). not (eqb e.id i)) es in omega arith
     by true false s rest k = let less = rest k in omega arith
     by false false s rest k = let less = rest k in omega arith
 
@@ -170,7 +170,7 @@ puback_uses i b =
     omega arith
   where
     by : (t : Bool) → length (cond t (without_entry i b.entries) b.entries) ≤ length b.entries
-    by true = filter_fewer (λ (e : Entry). not (eqb e.id i)) b.entries
+    by true = filter_fewer (λ (e : SenderEntry). not (eqb e.id i)) b.entries
     by false = omega arith
 
 pubrec_uses : (i : ℕ) (b : SenderBook) → length (uses (on_pubrec i b)) ≤ length (uses b)

@@ -14,18 +14,18 @@ use Rattle.mq_packet.specs.declared.packet.Packet.TheVariants as packets
 use Rattle.mq_packet.specs.declared.publish.Delivery.{Delivery}
 use Rattle.mq_packet.specs.Publication.{fits_delivery}
 use Rattle.mq_packet.specs.Encoding.{fields}
-use Rattle.mq_flow.specs.declared.entry.Entry.{Entry}
+use Rattle.mq_flow.specs.declared.entry.SenderEntry.{SenderEntry}
 use Rattle.mq_flow.specs.Sender.{SenderBook, blank_book, no_claims, publish_packet, resent, same_qos}
 use Rattle.mq_end.specs.declared.publish_outcome.PublishOutcome.{PublishOutcome}
 use Rattle.mq_end.specs.declared.packet_outcome.PacketOutcome.{PacketOutcome}
 use Rattle.mq_end.specs.declared.state.State.{State}
 use Rattle.mq_end.specs.declared.state.State.TheVariants.{Connecting}
-use Rattle.mq_end.specs.End.{End, Reply, comes_up, is_live, is_up, over, renewed}
+use Rattle.mq_end.specs.End.{End, Reply, becomes_connected, is_live, is_up, over, renewed}
 use Rattle.mq_end.specs.Both.{has_identifier}
 use Rattle.mq_end.specs.Server.{connect_gets, opens, refuses, server_gets, server_gets_in}
 use Rattle.mq_end.specs.Sizes.{publish_size}
 use Rattle.mq_end.specs.State.{EndState, Room}
-use Rattle.mq_end.specs.Ready.{AreEncodable, CanRise, FitsRoom, HasRise, HasRoom, packets_size, publishes_size, size_at_once}
+use Rattle.mq_end.specs.Ready.{AreEncodable, AwaitsConnect, FitsRoom, HasConnectRoom, HasRoom, packets_size, publishes_size, size_at_once}
 use Rattle.mq_end.specs.Receiving.{TakesPacket, outcome_of, told_of}
 use Rattle.mq_end.proofs.Handings.{err_told, ok_told}
 use Rattle.mq_end.proofs.Measures.{laws}
@@ -47,7 +47,7 @@ is_refused c = not c.clean_session && eqb (length c.client_id) 0
 connect_puts : (c : Connect) (e : End) → (connect_gets c e).out ≡ out_of (is_refused c) c.clean_session e.known e.book
 connect_puts c e =
     out_by (is_refused c) (refuses IdentifierRejected e)
-    (comes_up (packets.ConnAck (connacks.Accepted (not c.clean_session && e.known)) ∷ []) (not c.clean_session && e.known) (record (renewed c.clean_session e) { keep_alive = c.keep_alive }))
+    (becomes_connected (packets.ConnAck (connacks.Accepted (not c.clean_session && e.known)) ∷ []) (not c.clean_session && e.known) (record (renewed c.clean_session e) { keep_alive = c.keep_alive }))
 
 claims_aside : (refused clean known : Bool) (b : SenderBook) → out_of refused clean known (no_claims b) ≡ out_of refused clean known b
 claims_aside true clean known b = refl
@@ -108,7 +108,7 @@ rise_encodable c e h =
 
 -- ---- the room for it
 
-pub rise_kept : (c : Connect) (ms : List Message) (more : ℕ) (old new : EndState) → new.room ≡ old.room → (server_gets (packets.Connect c) (opens new.end).end).out ≡ (server_gets (packets.Connect c) (opens old.end).end).out → HasRise c ms more old → HasRise c ms more new
+pub rise_kept : (c : Connect) (ms : List Message) (more : ℕ) (old new : EndState) → new.room ≡ old.room → (server_gets (packets.Connect c) (opens new.end).end).out ≡ (server_gets (packets.Connect c) (opens old.end).end).out → HasConnectRoom c ms more old → HasConnectRoom c ms more new
 rise_kept c ms more old new room out h = record {
   messages = subst (λ (r : Room). length (filter (λ m. has_identifier m.qos) ms) ≤ r.messages) (sym room) h.messages;
   bytes =
@@ -120,14 +120,14 @@ rise_kept c ms more old new room out h = record {
 }
 
 -- Opening and losing a connection.
-pub opened_rise : (c : Connect) (ms : List Message) (more : ℕ) (old new : EndState) → new.end ≡ (opens old.end).end → new.room ≡ old.room → HasRise c ms more old → HasRise c ms more new
+pub opened_rise : (c : Connect) (ms : List Message) (more : ℕ) (old new : EndState) → new.end ≡ (opens old.end).end → new.room ≡ old.room → HasConnectRoom c ms more old → HasConnectRoom c ms more new
 opened_rise c ms more old new is room h = rise_kept c ms more old new room (ap (λ (e : End). (server_gets (packets.Connect c) (opens e).end).out) is ∙ twice_out c old.end) h
 
-pub dropped_rise : (c : Connect) (ms : List Message) (more : ℕ) (old new : EndState) → new.end ≡ over old.end → new.room ≡ old.room → HasRise c ms more old → HasRise c ms more new
+pub dropped_rise : (c : Connect) (ms : List Message) (more : ℕ) (old new : EndState) → new.end ≡ over old.end → new.room ≡ old.room → HasConnectRoom c ms more old → HasConnectRoom c ms more new
 dropped_rise c ms more old new is room h = rise_kept c ms more old new room (ap (λ (e : End). (server_gets (packets.Connect c) (opens e).end).out) is ∙ over_out c old.end) h
 
 -- more room
-pub rise_more : (c : Connect) (ms : List Message) (more : ℕ) (old new : EndState) → new.end ≡ old.end → old.room.messages ≤ new.room.messages → old.room.bytes ≤ new.room.bytes → HasRise c ms more old → HasRise c ms more new
+pub rise_more : (c : Connect) (ms : List Message) (more : ℕ) (old new : EndState) → new.end ≡ old.end → old.room.messages ≤ new.room.messages → old.room.bytes ≤ new.room.bytes → HasConnectRoom c ms more old → HasConnectRoom c ms more new
 rise_more c ms more old new same messages bytes h = record {
   messages = let had = h.messages in omega arith;
   bytes =
@@ -137,17 +137,17 @@ rise_more c ms more old new same messages bytes h = record {
   encodable = subst (λ (e : End). AreEncodable (server_gets (packets.Connect c) (opens e).end).out) (sym same) h.encodable;
 }
 
-pub rise_fits : (c : Connect) (ms : List Message) (more : ℕ) (s : EndState) → CanRise s → HasRise c ms more s → FitsRoom (server_gets (packets.Connect c) s.end).out s
+pub rise_fits : (c : Connect) (ms : List Message) (more : ℕ) (s : EndState) → AwaitsConnect s → HasConnectRoom c ms more s → FitsRoom (server_gets (packets.Connect c) s.end).out s
 rise_fits c ms more s w h =
     let out = ap packets_size (waiting_out c s.end w.state w.clean) in
     let none = ap length w.output in
     let had = h.bytes in
     omega arith
 
-pub rise_encodes : (c : Connect) (ms : List Message) (more : ℕ) (s : EndState) → CanRise s → HasRise c ms more s → AreEncodable (server_gets (packets.Connect c) s.end).out
+pub rise_encodes : (c : Connect) (ms : List Message) (more : ℕ) (s : EndState) → AwaitsConnect s → HasConnectRoom c ms more s → AreEncodable (server_gets (packets.Connect c) s.end).out
 rise_encodes c ms more s w h = subst AreEncodable (waiting_out c s.end w.state w.clean) h.encodable
 
-pub risen_room : (now : ℕ) (c : Connect) (o : PacketOutcome) (ms : List Message) (more : ℕ) (old new : EndState) → TakesPacket now (packets.Connect c) o old new → CanRise old → HasRise c ms more old → HasRoom ms more new
+pub risen_room : (now : ℕ) (c : Connect) (o : PacketOutcome) (ms : List Message) (more : ℕ) (old new : EndState) → TakesPacket now (packets.Connect c) o old new → AwaitsConnect old → HasConnectRoom c ms more old → HasRoom ms more new
 risen_room now c o ms more old new t w h = record {
   messages = subst (λ (r : Room). length (filter (λ m. has_identifier m.qos) ms) ≤ r.messages) (sym room) h.messages;
   bytes =
@@ -184,10 +184,10 @@ resent_size b =
     omega arith
 
 -- The sizes of its parts.
-pub resent_by : (b : SenderBook) (es : List Entry) (count size : ℕ) → es ≡ b.entries → count ≡ length b.released → size ≡ packets_size (published es) → count * 7 + size ≡ packets_size (resent b)
+pub resent_by : (b : SenderBook) (es : List SenderEntry) (count size : ℕ) → es ≡ b.entries → count ≡ length b.released → size ≡ packets_size (published es) → count * 7 + size ≡ packets_size (resent b)
 resent_by b es count size is counted sized =
     let whole = resent_size b in
-    let same = ap (λ (es : List Entry). packets_size (published es)) is in
+    let same = ap (λ (es : List SenderEntry). packets_size (published es)) is in
     omega arith
 
 -- The value of a sum that fits into `usize`.
@@ -212,9 +212,9 @@ either_none true b h = absurd cc
 either_none false b h = refl
 
 -- the PUBLISH of the first of them
-pub first_size : (e : Entry) (es all : List Entry) → all ≡ e ∷ es → list_any (λ (e : Entry). same_qos Q0 e.message.qos) all ≡ false → length (fields (publish_packet e.id e.sent e.message)) ≡ publish_size e.message
+pub first_size : (e : SenderEntry) (es all : List SenderEntry) → all ≡ e ∷ es → list_any (λ (e : SenderEntry). same_qos Q0 e.message.qos) all ≡ false → length (fields (publish_packet e.id e.sent e.message)) ≡ publish_size e.message
 first_size e es all is none =
-    let free = either_none (same_qos Q0 e.message.qos) (list_any (λ (e : Entry). same_qos Q0 e.message.qos) es) (ap (list_any (λ (e : Entry). same_qos Q0 e.message.qos)) (sym is) ∙ none) in
+    let free = either_none (same_qos Q0 e.message.qos) (list_any (λ (e : SenderEntry). same_qos Q0 e.message.qos) es) (ap (list_any (λ (e : SenderEntry). same_qos Q0 e.message.qos)) (sym is) ∙ none) in
     laws.publish e.message (Some (record { id = e.id; dup = e.sent })) (fits_kept e.message.qos (record { id = e.id; dup = e.sent }) free)
 
 -- ---- a packet that a server processes
@@ -235,7 +235,7 @@ pub publish_room : {E : Type 0} (r : Result PublishOutcome E) (now : ℕ) (m : M
 publish_room r now m p old new ms more takes stays =
     packet_room (told_of m r) now p old new ms more (λ live. ok_told m (λ o. TakesPacket now p o old new) r (takes live)) (err_told m (new ≡ old) r stays)
 
-pub rises_room : {E : Type 0} (r : Result PacketOutcome E) (now : ℕ) (c : Connect) (p : Packet) (old new : EndState) (ms : List Message) (more : ℕ) → p ≡ packets.Connect c → CanRise old → HasRise c ms more old
+pub rises_room : {E : Type 0} (r : Result PacketOutcome E) (now : ℕ) (c : Connect) (p : Packet) (old new : EndState) (ms : List Message) (more : ℕ) → p ≡ packets.Connect c → AwaitsConnect old → HasConnectRoom c ms more old
     → (is_live old.end.state ≡ true → IfOk r (λ o. TakesPacket now p o old new)) → (old.end.state ≡ Connecting → AreEncodable (server_gets p old.end).out → FitsRoom (server_gets p old.end).out old → IsOk r) → IsOk r × HasRoom ms more new
 rises_room (Ok o) now c p old new ms more is w h takes within =
     let t = subst (λ (q : Packet). TakesPacket now q o old new) is (takes (ap is_live w.state)) in

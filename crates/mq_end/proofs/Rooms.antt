@@ -10,7 +10,7 @@ use Rattle.mq_packet.specs.declared.packet.Packet.{Packet}
 use Rattle.mq_packet.specs.declared.packet.Packet.TheVariants as packets
 use Rattle.mq_packet.specs.Publication.{fits_delivery}
 use Rattle.mq_packet.specs.Encoding.{Encodes, fields}
-use Rattle.mq_flow.specs.declared.entry.Entry.{Entry}
+use Rattle.mq_flow.specs.declared.entry.SenderEntry.{SenderEntry}
 use Rattle.mq_flow.specs.Sender.{publish_packet}
 use Rattle.mq_end.specs.declared.state.State.{State}
 use Rattle.mq_end.specs.declared.state.State.TheVariants.{Disconnected, Connecting, Connected}
@@ -95,8 +95,8 @@ second_encodable [] qs h = h
 second_encodable (p ∷ ps) qs h = second_encodable ps qs h.1
 
 -- the PUBLISHes of messages that are kept
-abbrev pub published : List Entry → List Packet
-published es = map (λ (e : Entry). publish_packet e.id e.sent e.message) es
+abbrev pub published : List SenderEntry → List Packet
+published es = map (λ (e : SenderEntry). publish_packet e.id e.sent e.message) es
 
 pub at_most_all : (s : State) (ms : List Message) → size_at_once s ms ≤ publishes_size ms
 at_most_all Disconnected ms = omega arith

@@ -22,7 +22,7 @@ use Rattle.mq_end.specs.declared.happening.Happening.TheVariants as happens
 use Rattle.mq_end.specs.declared.reason.CloseReason.TheVariants as reasons
 use Rattle.mq_end.specs.declared.refusal.PublishRefusal.{PublishRefusal}
 use Rattle.mq_end.specs.declared.refusal.PublishRefusal.TheVariants as refusals
-use Rattle.mq_end.specs.End.{End, tells, over, closes, renewed, comes_up, is_up}
+use Rattle.mq_end.specs.End.{End, reports_event, over, closes, renewed, becomes_connected, is_up}
 use Rattle.mq_end.specs.Both.{stores, publish_gets, flow_gets, publishes_at, publish_refusal, has_identifier}
 use Rattle.mq_end.specs.Sizes.{publish_size}
 use Rattle.mq_end.specs.Client.{connack_gets, client_open_gets, client_up_gets, client_gets_in, request_refusal}
@@ -55,7 +55,7 @@ connack_sound : (capacity : ℕ) (a : ConnAck) (e : End) → IsSound capacity e.
 connack_sound capacity (connacks.Refused code) e s = over_sound capacity e s
 connack_sound capacity (connacks.Accepted present) e s =
     cond_both (e.clean && present) (closes reasons.Unexpected e) _ (λ r. IsSound capacity r.end.book) (λ t. over_sound capacity e s)
-    (λ f. cond_both (not e.clean && (e.known && not present)) (closes reasons.SessionLost e) (comes_up [] present e) (λ r. IsSound capacity r.end.book) (λ t. over_sound capacity e s) (λ f. books.sends capacity e.book s))
+    (λ f. cond_both (not e.clean && (e.known && not present)) (closes reasons.SessionLost e) (becomes_connected [] present e) (λ r. IsSound capacity r.end.book) (λ t. over_sound capacity e s) (λ f. books.sends capacity e.book s))
 
 client_open_sound : (capacity : ℕ) (p : Packet) (e : End) → IsSound capacity e.book → IsSound capacity (client_open_gets p e).end.book
 client_open_sound capacity (packets.ConnAck a) e s = connack_sound capacity a e s
@@ -63,10 +63,10 @@ client_open_sound capacity p e s = over_sound capacity e s
 
 client_up_sound : (capacity : ℕ) (p : Packet) (e : End) → IsSound capacity e.book → IsSound capacity (client_up_gets p e).end.book
 client_up_sound capacity (packets.SubAck i codes) e s =
-    cond_both (awaits_suback i (length codes) e.book) (tells (happens.SubAck i codes) (record e { book = release i e.book })) (closes reasons.Unexpected e) (λ r. IsSound capacity r.end.book)
+    cond_both (awaits_suback i (length codes) e.book) (reports_event (happens.SubAck i codes) (record e { book = release i e.book })) (closes reasons.Unexpected e) (λ r. IsSound capacity r.end.book)
     (λ t. books.releases capacity i e.book s) (λ f. over_sound capacity e s)
 client_up_sound capacity (packets.UnsubAck i) e s =
-    cond_both (awaits_unsuback i e.book) (tells (happens.UnsubAck i) (record e { book = release i e.book })) (closes reasons.Unexpected e) (λ r. IsSound capacity r.end.book)
+    cond_both (awaits_unsuback i e.book) (reports_event (happens.UnsubAck i) (record e { book = release i e.book })) (closes reasons.Unexpected e) (λ r. IsSound capacity r.end.book)
     (λ t. books.releases capacity i e.book s) (λ f. over_sound capacity e s)
 client_up_sound capacity packets.PingResp e s = s
 client_up_sound capacity p e s = flow_sound capacity p e s

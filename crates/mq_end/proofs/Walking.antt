@@ -13,7 +13,8 @@ use Rattle.mq_end.specs.declared.role.Role.{Role}
 use Rattle.mq_end.specs.declared.progress_builder.ProgressBuilder.{ProgressBuilder}
 use Rattle.mq_end.specs.End.{End, Reply, one_by_one, closes}
 use Rattle.mq_end.specs.State.{EndState}
-use Rattle.mq_end.specs.Receiving.{Acts, Makes, Hears, IsBreak, TakesAll, TakesNext, gets_as, held_after, heard_as}
+use Rattle.mq_end.specs.Receiving.{Acts, Makes, Hears, TakesAll, gets_as, held_after}
+use Rattle.mq_end.specs.Inside.Receiving.{IsBreak, TakesNext, heard_as}
 use Rattle.mq_end.proofs.Replies.{makes_end}
 use Rattle.mq_end.proofs.Received.{pending_nil}
 use Rattle.mq_end.proofs.Along.{Along, along_none, along_more, taken_shut, taken_starved}

@@ -25,13 +25,14 @@ use Rattle.mq_end.specs.declared.reason.CloseReason.{CloseReason}
 use Rattle.mq_end.specs.declared.reason.CloseReason.TheVariants as reasons
 use Rattle.mq_end.specs.declared.role.Role.{Role}
 use Rattle.mq_end.specs.declared.role.Role.TheVariants.{Client, Server}
-use Rattle.mq_end.specs.End.{End, Reply, silent, tells, over, closes, comes_up, renewed, is_up, one_by_one}
+use Rattle.mq_end.specs.End.{End, Reply, silent, reports_event, over, closes, becomes_connected, renewed, is_up, one_by_one}
 use Rattle.mq_end.specs.Both.{stores, publish_gets, flow_gets, publishes_at}
 use Rattle.mq_end.specs.Client.{connack_gets, client_open_gets, client_up_gets, client_gets_in, client_gets, connects}
 use Rattle.mq_end.specs.Server.{connect_gets, refuses, level_refused, server_open_gets, server_up_gets, server_gets_in, server_gets}
 use Rattle.mq_end.specs.KeepAlive.{is_late, server_ticks}
 use Rattle.mq_end.specs.State.{EndState, is_level, client_faulted, server_faulted}
-use Rattle.mq_end.specs.Receiving.{Ending, Waits, Closes, Breaks, Starves, ReceivesAs}
+use Rattle.mq_end.specs.Receiving.{Ending, Waits, Closes, Breaks, Starves}
+use Rattle.mq_end.specs.Inside.Receiving.{ReceivesAs}
 use Rattle.mq_end.specs.Laws.{KeepsWindow, WindowLaws}
 
 pub still : (e : End) → KeepsWindow e e
@@ -68,7 +69,7 @@ connack_window : (a : ConnAck) (e : End) → KeepsWindow e (connack_gets a e).en
 connack_window (connacks.Refused code) e = over_window e
 connack_window (connacks.Accepted present) e =
     cond_both (e.clean && present) (closes reasons.Unexpected e) _ (λ r. KeepsWindow e r.end) (λ t. over_window e)
-    (λ f. cond_both (not e.clean && (e.known && not present)) (closes reasons.SessionLost e) (comes_up [] present e) (λ r. KeepsWindow e r.end) (λ t. over_window e) (λ f. still e))
+    (λ f. cond_both (not e.clean && (e.known && not present)) (closes reasons.SessionLost e) (becomes_connected [] present e) (λ r. KeepsWindow e r.end) (λ t. over_window e) (λ f. still e))
 
 client_open_window : (p : Packet) (e : End) → KeepsWindow e (client_open_gets p e).end
 client_open_window (packets.ConnAck a) e = connack_window a e
@@ -76,9 +77,9 @@ client_open_window p e = over_window e
 
 client_up_window : (p : Packet) (e : End) → KeepsWindow e (client_up_gets p e).end
 client_up_window (packets.SubAck i codes) e =
-    cond_both (awaits_suback i (length codes) e.book) (tells (happens.SubAck i codes) (record e { book = release i e.book })) (closes reasons.Unexpected e) (λ r. KeepsWindow e r.end) (λ t. still e) (λ f. over_window e)
+    cond_both (awaits_suback i (length codes) e.book) (reports_event (happens.SubAck i codes) (record e { book = release i e.book })) (closes reasons.Unexpected e) (λ r. KeepsWindow e r.end) (λ t. still e) (λ f. over_window e)
 client_up_window (packets.UnsubAck i) e =
-    cond_both (awaits_unsuback i e.book) (tells (happens.UnsubAck i) (record e { book = release i e.book })) (closes reasons.Unexpected e) (λ r. KeepsWindow e r.end) (λ t. still e) (λ f. over_window e)
+    cond_both (awaits_unsuback i e.book) (reports_event (happens.UnsubAck i) (record e { book = release i e.book })) (closes reasons.Unexpected e) (λ r. KeepsWindow e r.end) (λ t. still e) (λ f. over_window e)
 client_up_window packets.PingResp e = still e
 client_up_window p e = flow_window p e
 

@@ -13,7 +13,7 @@ use Rattle.mq_end.specs.declared.happening.Happening.TheVariants as happens
 use Rattle.mq_end.specs.declared.reason.CloseReason.TheVariants as reasons
 use Rattle.mq_end.specs.declared.refusal.PublishRefusal.{PublishRefusal}
 use Rattle.mq_end.specs.declared.refusal.PublishRefusal.TheVariants as refusals
-use Rattle.mq_end.specs.End.{End, Reply, silent, puts_out, tells, closes, is_up}
+use Rattle.mq_end.specs.End.{End, Reply, silent, sends_packets, reports_event, closes, is_up}
 use Rattle.mq_end.specs.Sizes.{publish_size}
 
 -- QoS 2 PUBLISH: the identifier is stored and PUBREC sent; the message is delivered only if its
@@ -30,7 +30,7 @@ stores id message end = record {
 -- A PUBLISH arrives at a connected end, by its QoS (3.3, 4.3).
 abbrev pub publish_gets : Qos → Option Delivery → Message → End → Reply
 -- At most once: it is delivered (4.3.1).
-publish_gets Q0 None message end = tells (happens.Handed message) end
+publish_gets Q0 None message end = reports_event (happens.Handed message) end
 -- At least once: each PUBLISH is delivered and acknowledged by PUBACK, also a repeated one (4.3.2).
 publish_gets Q1 (Some delivery) message end = record {
   end = end;
@@ -58,9 +58,9 @@ flow_gets (packets.PubAck id) end = record {
   close = None;
 }
 -- PUBREC is answered by PUBREL (3.5, 4.3.3)
-flow_gets (packets.PubRec id) end = puts_out (pubrec_answer id end.book) (record end { book = on_pubrec id end.book })
+flow_gets (packets.PubRec id) end = sends_packets (pubrec_answer id end.book) (record end { book = on_pubrec id end.book })
 -- PUBREL is answered by PUBCOMP, always (3.6, 4.3.3)
-flow_gets (packets.PubRel id) end = puts_out (packets.PubComp id ∷ []) (record end { received = on_pubrel id end.received })
+flow_gets (packets.PubRel id) end = sends_packets (packets.PubComp id ∷ []) (record end { received = on_pubrel id end.received })
 -- PUBCOMP (3.7, 4.3.3)
 flow_gets (packets.PubComp id) end = silent (record end { book = on_pubcomp id end.book })
 -- any other packet is unexpected (4.8)
@@ -77,8 +77,8 @@ has_identifier Q2 = true
 -- The user publishes a message under this identifier, if it has one. A connected end sends it at
 -- once. A QoS 1 or 2 message is stored until it is acknowledged (4.3.2, 4.3.3).
 abbrev pub publishes_at : Qos → ℕ → Message → End → Reply
-publishes_at Q0 id message end = puts_out (packets.Publish (record { message = message; delivery = None }) ∷ []) end
-publishes_at qos id message end = puts_out
+publishes_at Q0 id message end = sends_packets (packets.Publish (record { message = message; delivery = None }) ∷ []) end
+publishes_at qos id message end = sends_packets
     (if is_up end.state then publish_packet id false message ∷ [] else [])
     (record end { book = accept id message (is_up end.state) end.book; last = id })
 

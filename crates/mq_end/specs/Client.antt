@@ -14,7 +14,7 @@ use Rattle.mq_end.specs.declared.happening.Happening.TheVariants as happens
 use Rattle.mq_end.specs.declared.reason.CloseReason.TheVariants as reasons
 use Rattle.mq_end.specs.declared.refusal.PublishRefusal.{PublishRefusal}
 use Rattle.mq_end.specs.declared.refusal.PublishRefusal.TheVariants as refusals
-use Rattle.mq_end.specs.End.{End, Reply, silent, puts_out, tells, over, closes, closes_after, renewed, comes_up, is_up, one_by_one}
+use Rattle.mq_end.specs.End.{End, Reply, silent, sends_packets, reports_event, over, closes, closes_after, renewed, becomes_connected, is_up, one_by_one}
 use Rattle.mq_end.specs.Both.{flow_gets}
 use Rattle.mq_end.specs.Sizes.{subscribe_size, unsubscribe_size}
 
@@ -30,7 +30,7 @@ connack_gets (connacks.Refused code) end = closes (reasons.Refused code) end
 connack_gets (connacks.Accepted session_present) end =
     if end.clean && session_present then closes reasons.Unexpected end else
     (if not end.clean && (end.known && not session_present) then closes reasons.SessionLost end else
-    comes_up [] session_present end)
+    becomes_connected [] session_present end)
 
 -- the first packet has to be CONNACK (3.2)
 abbrev pub client_open_gets : Packet → End → Reply
@@ -42,14 +42,14 @@ abbrev pub client_up_gets : Packet → End → Reply
 -- SUBACK must have the identifier of a pending SUBSCRIBE, and one code for each of its filters
 -- (3.8.4, 3.9).
 client_up_gets (packets.SubAck id codes) end =
-    if awaits_suback id (length codes) end.book then tells (happens.SubAck id codes) (record end { book = release id end.book }) else
+    if awaits_suback id (length codes) end.book then reports_event (happens.SubAck id codes) (record end { book = release id end.book }) else
     closes reasons.Unexpected end
 -- UNSUBACK must have the identifier of a pending UNSUBSCRIBE (3.10.4, 3.11).
 client_up_gets (packets.UnsubAck id) end =
-    if awaits_unsuback id end.book then tells (happens.UnsubAck id) (record end { book = release id end.book }) else
+    if awaits_unsuback id end.book then reports_event (happens.UnsubAck id) (record end { book = release id end.book }) else
     closes reasons.Unexpected end
 -- PINGRESP (3.13)
-client_up_gets packets.PingResp end = tells happens.Pong end
+client_up_gets packets.PingResp end = reports_event happens.Pong end
 -- Messages and their acknowledgements; any other packet is a protocol violation (4.3, 4.8).
 client_up_gets packet end = flow_gets packet end
 
@@ -72,15 +72,15 @@ client_gets_all arrived end = one_by_one client_gets arrived end
 
 -- The user opens a connection with this CONNECT (3.1). One that was there is over first.
 abbrev pub connects : Connect → End → Reply
-connects connect end = puts_out (packets.Connect connect ∷ []) (record (renewed connect.clean_session (over end)) { state = Connecting; keep_alive = connect.keep_alive })
+connects connect end = sends_packets (packets.Connect connect ∷ []) (record (renewed connect.clean_session (over end)) { state = Connecting; keep_alive = connect.keep_alive })
 
 -- SUBSCRIBE with this identifier (3.8)
 abbrev pub subscribes : ℕ → List Request → End → Reply
-subscribes id requests end = puts_out (packets.Subscribe id requests ∷ []) (record end { book = claim id claims.Subscribe (length requests) end.book; last = id })
+subscribes id requests end = sends_packets (packets.Subscribe id requests ∷ []) (record end { book = claim id claims.Subscribe (length requests) end.book; last = id })
 
 -- UNSUBSCRIBE with this identifier (3.10)
 abbrev pub unsubscribes : ℕ → List (List ℕ) → End → Reply
-unsubscribes id filters end = puts_out (packets.Unsubscribe id filters ∷ []) (record end { book = claim id claims.Unsubscribe (length filters) end.book; last = id })
+unsubscribes id filters end = sends_packets (packets.Unsubscribe id filters ∷ []) (record end { book = claim id claims.Unsubscribe (length filters) end.book; last = id })
 
 -- The first reason to refuse a packet of this remaining length (2.2.3) that needs an identifier
 -- (2.3.1).

@@ -64,12 +64,12 @@ abbrev pub silent : End → Reply
 silent end = record { end = end; out = []; happenings = []; freed = []; close = None }
 
 -- It sends packets.
-abbrev pub puts_out : List Packet → End → Reply
-puts_out packets end = record { end = end; out = packets; happenings = []; freed = []; close = None }
+abbrev pub sends_packets : List Packet → End → Reply
+sends_packets packets end = record { end = end; out = packets; happenings = []; freed = []; close = None }
 
 -- It reports an event.
-abbrev pub tells : Happening → End → Reply
-tells happening end = record { end = end; out = []; happenings = happening ∷ []; freed = []; close = None }
+abbrev pub reports_event : Happening → End → Reply
+reports_event happening end = record { end = end; out = []; happenings = happening ∷ []; freed = []; close = None }
 
 -- The connection is over. The identifiers of SUBSCRIBE and UNSUBSCRIBE are free; the rest of the
 -- session stays, but one of a CONNECT with clean session 1 ends with its connection, however that
@@ -107,8 +107,8 @@ renewed clean end = record end {
 
 -- The end is connected: after these packets it retransmits all unacknowledged messages (4.4), and
 -- sends those accepted since for the first time.
-abbrev pub comes_up : List Packet → Bool → End → Reply
-comes_up before session_present end = record {
+abbrev pub becomes_connected : List Packet → Bool → End → Reply
+becomes_connected before session_present end = record {
   end = record end { state = Connected; known = true; book = all_sent end.book };
   out = before ++ resent end.book;
   happenings = happens.Up session_present ∷ [];

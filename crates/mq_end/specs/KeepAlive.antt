@@ -2,7 +2,7 @@
 use Rattle.std.specs.Prelude.{ℕ, ◌+◌, ◌*◌, ◌<◌, ◌≡◌, ◌↔◌, Bool, true, ◌&&◌, if◌then◌else◌, Some, [], ◌∷◌, nat_lt, nat_le}
 use Rattle.mq_packet.specs.declared.packet.Packet.TheVariants as packets
 use Rattle.mq_end.specs.declared.reason.CloseReason.TheVariants as reasons
-use Rattle.mq_end.specs.End.{End, Reply, silent, puts_out, closes, is_up}
+use Rattle.mq_end.specs.End.{End, Reply, silent, sends_packets, closes, is_up}
 
 -- Late: the keep-alive is not 0, and since the last whole packet more than one and a half times of
 -- it has elapsed (3.1.2.10).
@@ -23,7 +23,7 @@ pings since now end = is_up end.state && is_due since end.keep_alive now
 
 -- The client's `tick`: it sends PINGREQ if one is due (3.12). It never closes.
 abbrev pub client_ticks : ℕ → ℕ → End → Reply
-client_ticks since now end = puts_out (if pings since now end then packets.PingReq ∷ [] else []) end
+client_ticks since now end = sends_packets (if pings since now end then packets.PingReq ∷ [] else []) end
 
 -- The time of its CONNECT or last PINGREQ, after the call (3.1.2.10).
 abbrev pub client_since : ℕ → ℕ → End → ℕ

@@ -1,4 +1,4 @@
--- What the source files of this crate cite. It declares nothing itself.
+-- The names that the source files of this crate cite. It declares none of its own.
 pub use Rattle.std.specs.Iterator.{YieldsFirst, item_count}
 pub use Rattle.std.specs.Iterator.Runs.{YieldsInOrder}
 pub use Rattle.std.specs.List.{AllZip, list_any}
@@ -17,14 +17,15 @@ pub use Rattle.mq_end.specs.Both.{publish_refusal, flow_gets, publish_gets, stor
 pub use Rattle.mq_end.specs.Client.{connects, subscribes, subscribe_refusal, unsubscribes, unsubscribe_refusal, leaves, leave_refusal, client_open_gets, connack_gets, client_gets, client_up_gets}
 pub use Rattle.mq_end.specs.Codes.{close_code, refusal_code}
 pub use Rattle.mq_end.specs.Deadline.{IsDeadline, is_overdue}
-pub use Rattle.mq_end.specs.End.{blank_end, is_live, over, resumed, End, renewed, comes_up, Reply, closes, is_up, puts_out}
+pub use Rattle.mq_end.specs.End.{blank_end, is_live, over, resumed, End, renewed, becomes_connected, Reply, closes, is_up, sends_packets}
 pub use Rattle.mq_end.specs.KeepAlive.{pings, KeepAliveLaws, is_due, is_late, server_ticks}
 pub use Rattle.mq_end.specs.Laws.{KeepsWindow, ClosingLaws, SoundLaws, WindowLaws}
 pub use Rattle.mq_end.specs.Inside.Opening.{accepts_connect, connack_in, terms_get, terms_in, terms_of}
 pub use Rattle.mq_end.specs.Publishing.{Accepts, connect_of}
-pub use Rattle.mq_end.specs.Ready.{whole_size, AreEncodable, FitsRoom, CanSend, is_exactly_once, is_plain, HasRoom, size_at_once, publishes_size, packets_size, HasRise, CanRise}
+pub use Rattle.mq_end.specs.Ready.{whole_size, AreEncodable, FitsRoom, CanSend, is_exactly_once, is_plain, HasRoom, size_at_once, publishes_size, packets_size, HasConnectRoom, AwaitsConnect}
 pub use Rattle.mq_end.specs.ReadyLaws.{ReadyLaws}
-pub use Rattle.mq_end.specs.Receiving.{Acts, ClientReceives, ClientTakes, Gives, outcome_of, Makes, Stays, gets_as, HeardAs, Hears, IsBreak, ReceivesAs, Shows, TakesAs, TakesNext, TakesPacket, heard_as, is_answered, no_outcome, HearsAt, ServerReceives, TakesOne}
+pub use Rattle.mq_end.specs.Receiving.{Acts, ClientReceives, ClientTakes, Gives, outcome_of, Makes, Stays, gets_as, HeardAs, Hears, Shows, TakesAs, TakesPacket, no_outcome, HearsAt, ServerReceives, TakesOne}
+pub use Rattle.mq_end.specs.Inside.Receiving.{IsBreak, ReceivesAs, TakesNext, heard_as, is_answered}
 pub use Rattle.mq_end.specs.Requests.{Requests, Ticks}
 pub use Rattle.mq_end.specs.Resuming.{FitsWithin, NamesAnother, kept_session}
 pub use Rattle.mq_end.specs.Server.{opens, server_open_gets, refuses, server_gets, server_up_gets, ready_refusal, answer_refusal, suback_refusal, unsuback_refusal, subacks, unsubacks, would_hand, server_publish_refusal}

@@ -70,13 +70,13 @@ CanSend (packet ∷ more) link = FitsRoom (packet ∷ more) link
 
 -- An end has room to connect by this CONNECT on a new connection: for CONNACK and all
 -- retransmissions (3.2, 4.4), then to publish these messages and to send `more` other bytes.
-pub record HasRise (connect : Connect) (ms : List Message) (more : ℕ) (link : EndState) : Type 0 where
+pub record HasConnectRoom (connect : Connect) (ms : List Message) (more : ℕ) (link : EndState) : Type 0 where
   pub messages : length (filter (λ message. has_identifier message.qos) ms) ≤ link.room.messages
   pub bytes : packets_size (server_gets (packets.Connect connect) (opens link.end).end).out + (publishes_size ms + more) ≤ link.room.bytes
   pub encodable : AreEncodable (server_gets (packets.Connect connect) (opens link.end).end).out
 
 -- An end waits for the CONNECT of an open connection and has no pending output (3.1).
-pub record CanRise (link : EndState) : Type 0 where
+pub record AwaitsConnect (link : EndState) : Type 0 where
   pub state : link.end.state ≡ Connecting
   pub clean : link.end.clean ≡ false
   pub output : link.output ≡ []

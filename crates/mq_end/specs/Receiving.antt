@@ -1,10 +1,10 @@
 -- The reaction of an open end to received bytes, cut anywhere (4.2, 4.6, 4.8).
-use Rattle.std.specs.Prelude.{◌≡◌, ◌⊎◌, ℕ, Bool, false, not, ◌&&◌, if◌then◌else◌, ◌<◌, ◌≤◌, List, [], ◌∷◌, ◌++◌, length, take, Option, Some, None, IsSome, option_to_list, Result, Ok, Err}
+use Rattle.std.specs.Prelude.{◌≡◌, ◌⊎◌, ℕ, ◌<◌, List, [], ◌∷◌, ◌++◌, length, Option, Some, None, IsSome, option_to_list, Result, Ok, Err}
 use Rattle.mq_packet.specs.declared.message.Message.{Message}
 use Rattle.mq_packet.specs.declared.packet.Packet.{Packet}
 use Rattle.mq_decode.specs.declared.fault.DecodeFault.{DecodeFault}
 use Rattle.mq_decode.specs.Limits.{Bounds}
-use Rattle.mq_decode.specs.Grammar.{Stream, Pending, Faulty, ReadsWithin}
+use Rattle.mq_decode.specs.Grammar.{Stream, Pending, Faulty}
 use Rattle.mq_end.specs.declared.publish_outcome.PublishOutcome.{PublishOutcome}
 use Rattle.mq_end.specs.declared.publish_outcome.PublishOutcome.TheVariants as handings
 use Rattle.mq_end.specs.declared.happening.Happening.{Happening}
@@ -15,10 +15,10 @@ use Rattle.mq_end.specs.declared.role.Role.{Role}
 use Rattle.mq_end.specs.declared.role.Role.TheVariants.{Client, Server}
 use Rattle.mq_end.specs.declared.progress_builder.ProgressBuilder.{ProgressBuilder}
 use Rattle.mq_end.specs.declared.reason.CloseReason.TheVariants as reasons
-use Rattle.mq_end.specs.End.{End, Reply, closes, followed, is_up, one_by_one}
+use Rattle.mq_end.specs.End.{End, Reply, closes, followed, one_by_one}
 use Rattle.mq_end.specs.Client.{client_gets}
 use Rattle.mq_end.specs.Server.{server_gets}
-use Rattle.mq_end.specs.State.{EndState, PutsOut, is_level, client_faulted, server_faulted}
+use Rattle.mq_end.specs.State.{EndState, PutsOut, client_faulted, server_faulted}
 
 -- How it ends. `first` is the reply to the complete packets, `rest` the bytes behind them, `reply`
 -- the whole reply, and `held` the bytes that the end then holds.
@@ -72,11 +72,6 @@ pub record HearsAt (now : ℕ) (bytes : List ℕ) (closed : Option CloseReason) 
   pub waits : Pending old.limit bytes → new.last_activity ≡ old.last_activity
   pub closes : IsSome closed → new.last_activity ≡ old.last_activity
   pub hears : closed ≡ None → ¬ Pending old.limit bytes → new.last_activity ≡ now
-
--- The time of last activity of an end of this role, after a complete packet or none (3.1.2.10).
-abbrev pub heard_as : Role → Bool → ℕ → ℕ → ℕ
-heard_as Client came now last = last
-heard_as Server came now last = if came then now else last
 
 -- The time of last activity of an end of this role after bytes that arrive now; the client's does
 -- not depend on received packets (3.1.2.10).
@@ -136,15 +131,6 @@ abbrev pub faulted_as : Role → DecodeFault → End → Reply
 faulted_as Client fault end = client_faulted fault end
 faulted_as Server fault end = server_faulted fault end
 
--- Whether a malformed packet is answered: a first CONNECT of another protocol level is (3.1.2.2).
-abbrev pub is_answered : Role → DecodeFault → End → Bool
-is_answered Client fault end = false
-is_answered Server fault end = not (is_up end.state) && is_level fault.kind
-
--- The reaction to a malformed packet if an allocation for the response may fail.
-abbrev pub IsBreak : Role → DecodeFault → End → Reply → Type 0
-IsBreak role fault end reply = (reply ≡ faulted_as role fault end) ⊎ (reply ≡ closes reasons.Memory end)
-
 -- The reaction of an end with a connection to received bytes.
 pub record Hears (role : Role) (now : ℕ) (piece : List ℕ) (old new : EndState) (told after : ProgressBuilder) (closed : Option CloseReason) : Type 0 where
   pub reply : Reply
@@ -155,23 +141,6 @@ pub record Hears (role : Role) (now : ℕ) (piece : List ℕ) (old new : EndStat
   pub happenings : after.happenings.items ≡ told.happenings.items ++ reply.happenings
   pub acknowledged : after.acknowledged.items ≡ told.acknowledged.items ++ reply.freed
   pub close : closed ≡ reply.close
-
--- The reaction to the next complete packet of the held bytes and a piece: the number of bytes used
--- of the piece, and the reply; or an allocation failed and the end closed. Nothing is held behind
--- it.
-pub record TakesNext (role : Role) (piece : List ℕ) (size : ℕ) (closed : Option CloseReason) (old new : EndState) (told now : ProgressBuilder) : Type 0 where
-  pub within : size ≤ length piece
-  pub packet : Packet
-  pub reads : ReadsWithin old.limit packet (old.held ++ take size piece)
-  pub reply : Reply
-  pub does : (reply ≡ gets_as role packet old.end) ⊎ (reply ≡ closes reasons.Memory old.end)
-  pub close : closed ≡ reply.close
-  pub makes : Makes reply (record old { held = [] }) new told now
-
--- an end of this role receives bytes
-abbrev pub ReceivesAs : Role → List ℕ → EndState → EndState → List Happening → List ℕ → Option CloseReason → Type 0
-ReceivesAs Client piece old new happenings acknowledged closed = ClientReceives piece old new happenings acknowledged closed
-ReceivesAs Server piece old new happenings acknowledged closed = ServerReceives piece old new happenings acknowledged closed
 
 -- The time of a server's last complete packet after one that arrives now, unless the end closed
 -- (3.1.2.10).

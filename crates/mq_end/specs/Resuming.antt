@@ -1,6 +1,6 @@
 -- An end that continues a stored session (3.1.2.4, 4.1).
 use Rattle.std.specs.Prelude.{◌≡◌, ℕ, ◌≤◌, List, Option, Some, None, All}
-use Rattle.mq_flow.specs.declared.entry.Entry.{Entry}
+use Rattle.mq_flow.specs.declared.entry.SenderEntry.{SenderEntry}
 use Rattle.mq_flow.specs.declared.session.Session.{Session}
 use Rattle.mq_flow.specs.Sender.{no_claims}
 use Rattle.mq_end.specs.Sizes.{publish_size}
@@ -9,7 +9,7 @@ use Rattle.mq_end.specs.State.{EndState}
 -- the PUBLISH of each message that the session holds is within the bound on the remaining length
 -- (2.2.3, 3.3)
 abbrev pub FitsWithin : ℕ → Session → Type 0
-FitsWithin limit session = All (λ (entry : Entry). publish_size entry.message ≤ limit) session.sender.book.entries
+FitsWithin limit session = All (λ (entry : SenderEntry). publish_size entry.message ≤ limit) session.sender.book.entries
 
 -- the session of an end as it is saved: nothing is claimed, and no room is reserved
 abbrev pub kept_session : EndState → Session

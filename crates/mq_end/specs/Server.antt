@@ -17,7 +17,7 @@ use Rattle.mq_end.specs.declared.happening.Happening.TheVariants as happens
 use Rattle.mq_end.specs.declared.reason.CloseReason.TheVariants as reasons
 use Rattle.mq_end.specs.declared.refusal.PublishRefusal.{PublishRefusal}
 use Rattle.mq_end.specs.declared.refusal.PublishRefusal.TheVariants as refusals
-use Rattle.mq_end.specs.End.{End, Reply, silent, puts_out, tells, over, closes, closes_after, renewed, comes_up, is_up, one_by_one}
+use Rattle.mq_end.specs.End.{End, Reply, silent, sends_packets, reports_event, over, closes, closes_after, renewed, becomes_connected, is_up, one_by_one}
 use Rattle.mq_end.specs.Both.{flow_gets, has_identifier, publish_refusal}
 use Rattle.mq_end.specs.Sizes.{publish_size, suback_size, unsuback_size}
 
@@ -34,7 +34,7 @@ abbrev pub connect_gets : Connect → End → Reply
 -- 3.2.2.2)
 connect_gets connect end =
     if not connect.clean_session && length connect.client_id == 0 then refuses IdentifierRejected end else
-    comes_up
+    becomes_connected
     (packets.ConnAck (connacks.Accepted (not connect.clean_session && end.known)) ∷ [])
     (not connect.clean_session && end.known)
     (record (renewed connect.clean_session end) { keep_alive = connect.keep_alive })
@@ -51,10 +51,10 @@ server_open_gets packet end = closes reasons.Unexpected end
 -- A packet arrives at a connected server.
 abbrev pub server_up_gets : Packet → End → Reply
 -- The user answers SUBSCRIBE and UNSUBSCRIBE (3.8.4, 3.10.4).
-server_up_gets (packets.Subscribe id requests) end = tells (happens.Subscribe id requests) end
-server_up_gets (packets.Unsubscribe id filters) end = tells (happens.Unsubscribe id filters) end
+server_up_gets (packets.Subscribe id requests) end = reports_event (happens.Subscribe id requests) end
+server_up_gets (packets.Unsubscribe id filters) end = reports_event (happens.Unsubscribe id filters) end
 -- PINGREQ is answered by PINGRESP (3.12)
-server_up_gets packets.PingReq end = puts_out (packets.PingResp ∷ []) end
+server_up_gets packets.PingReq end = sends_packets (packets.PingResp ∷ []) end
 -- DISCONNECT ends the connection (3.14)
 server_up_gets packets.Disconnect end = closes reasons.Left end
 -- Messages and their acknowledgements; any other packet is a protocol violation, also a second
@@ -107,11 +107,11 @@ ready_refusal limit capacity messages end =
 
 -- SUBACK answers a SUBSCRIBE (3.9).
 abbrev pub subacks : ℕ → List SubAckCode → End → Reply
-subacks id codes end = puts_out (packets.SubAck id codes ∷ []) end
+subacks id codes end = sends_packets (packets.SubAck id codes ∷ []) end
 
 -- UNSUBACK answers an UNSUBSCRIBE (3.11).
 abbrev pub unsubacks : ℕ → End → Reply
-unsubacks id end = puts_out (packets.UnsubAck id ∷ []) end
+unsubacks id end = sends_packets (packets.UnsubAck id ∷ []) end
 
 -- The first reason to refuse a response of this remaining length (2.2.3).
 abbrev pub answer_refusal : ℕ → ℕ → End → Option PublishRefusal

@@ -1,9 +1,18 @@
 //! When `tick` next does something (3.1.2.10).
 
-ghost use Rattle.mq_end.specs.Prelude.{IsDeadline, is_overdue, pings};
+ghost use Rattle.mq_end.specs.Prelude.{IsDeadline, is_late, is_overdue, pings};
 
 use crate::endpoint::Endpoint;
 use crate::state::State;
+
+/// Whether more than one and a half times the keep-alive, in seconds, has passed since the last
+/// packet. Times are in milliseconds. A keep-alive of 0 switches the check off (3.1.2.10).
+pub fn is_late(last_activity: u64, keep_alive: u16, now: u64) -> bool
+    ensures { result ≡ is_late last_activity keep_alive now }
+{
+    let wait = 1_500 * u64::from(keep_alive);
+    wait > 0 && now > last_activity && now - last_activity > wait
+}
 
 impl Endpoint {
     /// The time from which on `tick_client` sends a PINGREQ (3.12).

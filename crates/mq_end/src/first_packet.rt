@@ -1,7 +1,7 @@
 //! The first packet of a connection (3.1, 3.2), and the retransmissions that follow it (4.4).
 
 ghost use Rattle.std.specs.Prelude.{◌≡◌, ◌∷◌, [], IsOk, IfOk, OnOk, OnErr};
-ghost use Rattle.mq_end.specs.Prelude.{resent, client_open_gets, connack_gets, server_open_gets, refuses, comes_up, renewed, accepts_connect, connack_in, terms_get, terms_in, terms_of, AreEncodable, FitsRoom, Acts, Gives, PutsOut};
+ghost use Rattle.mq_end.specs.Prelude.{resent, client_open_gets, connack_gets, server_open_gets, refuses, becomes_connected, renewed, accepts_connect, connack_in, terms_get, terms_in, terms_of, AreEncodable, FitsRoom, Acts, Gives, PutsOut};
 ghost use Rattle.mq_packet.specs.declared.packet.Packet.TheVariants as packets;
 ghost use Rattle.mq_packet.specs.declared.connack.ConnAck.TheVariants as connacks;
 
@@ -53,8 +53,8 @@ fn terms_of(connect: &Connect) -> Terms
 
 impl Endpoint {
     /// Marks the client as connected (4.4).
-    fn come_up(&mut self, session_present: bool) -> Result<PacketOutcome, AllocError>
-        ensures ok { IfOk result (λ outcome. Gives (comes_up [] session_present self.old.end) outcome self.old self.new) }
+    fn become_connected(&mut self, session_present: bool) -> Result<PacketOutcome, AllocError>
+        ensures ok { IfOk result (λ outcome. Gives (becomes_connected [] session_present self.old.end) outcome self.old self.new) }
         ensures err { OnErr result (self.new ≡ self.old) }
     {
         self.write_resent()?;
@@ -79,7 +79,7 @@ impl Endpoint {
         if !self.clean && self.known && !session_present {
             return Ok(PacketOutcome::closes(self.close(CloseReason::SessionLost)));
         }
-        self.come_up(session_present)
+        self.become_connected(session_present)
     }
 
     /// Processes the first packet at the client (3.2).

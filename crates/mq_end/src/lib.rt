@@ -44,6 +44,7 @@ mod views;
 pub use crate::boxed_list::BoxedList;
 pub use crate::client::ClientEnd;
 pub use crate::config::{ClientConfig, ServerConfig};
+pub use crate::deadline::is_late;
 pub use crate::happening::Happening;
 pub use crate::laws::{
     closing_laws, keep_alive_laws, ready_laws, size_laws, sound_laws, window_laws,

@@ -96,7 +96,7 @@ impl Endpoint {
         ensures ok { IfOk result (λ outcome. Gives (server_gets packet self.old.end) outcome self.old self.new) }
         ensures up { is_up self.old.end.state ≡ true → is_exactly_once packet ≡ false
             → CanSend (server_gets packet self.old.end).out self.old → IsOk result }
-        ensures rises { self.old.end.state ≡ states.Connecting → AreEncodable (server_gets packet self.old.end).out
+        ensures connects { self.old.end.state ≡ states.Connecting → AreEncodable (server_gets packet self.old.end).out
             → FitsRoom (server_gets packet self.old.end).out self.old → IsOk result }
         ensures err { OnErr result (self.new ≡ self.old) }
     {

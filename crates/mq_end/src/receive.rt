@@ -167,7 +167,7 @@ impl Endpoint {
         ensures nothing { is_live self.old.end.state ≡ false → result ≡ Ok no_outcome }
         ensures up { is_up self.old.end.state ≡ true → is_exactly_once packet ≡ false
             → CanSend (server_gets packet self.old.end).out self.old → IsOk result }
-        ensures rises { self.old.end.state ≡ states.Connecting → AreEncodable (server_gets packet self.old.end).out
+        ensures connects { self.old.end.state ≡ states.Connecting → AreEncodable (server_gets packet self.old.end).out
             → FitsRoom (server_gets packet self.old.end).out self.old → IsOk result }
         ensures err { OnErr result (self.new ≡ self.old) }
     {
@@ -182,7 +182,7 @@ impl Endpoint {
     /// Processes a PUBLISH at the server (3.3, 4.3) like `take_packet`, but the caller keeps the
     /// message.
     #[inline(always)]
-    pub(crate) fn take_publish_of(
+    pub(crate) fn receive_publish(
         &mut self,
         now: u64,
         message: &Message,

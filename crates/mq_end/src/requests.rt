@@ -1,9 +1,10 @@
 //! Requests to the other end, and responses to its requests (3.8 to 3.12, 3.14).
 
 ghost use Rattle.std.specs.Prelude.{◌≡◌, ℕ, ◌+◌, List, ◌∷◌, [], length, true, false, not, if◌then◌else◌, nat_lt, IsOk, IfOk, IfErr, IfSome, IfNone, OnOk, OnErr, Err, None, Some};
-ghost use Rattle.mq_end.specs.Prelude.{Message, fields, is_full, claim, IsFree, is_up, puts_out, subscribe_size, unsubscribe_size, suback_size, unsuback_size, subscribe_refusal, unsubscribe_refusal, leave_refusal, subscribes, unsubscribes, leaves, answer_refusal, suback_refusal, unsuback_refusal, subacks, unsubacks, is_due, is_late, pings, server_ticks, HasRoom, whole_size, Acts, Requests, Ticks};
+ghost use Rattle.mq_end.specs.Prelude.{Message, fields, is_full, claim, IsFree, is_up, sends_packets, subscribe_size, unsubscribe_size, suback_size, unsuback_size, subscribe_refusal, unsubscribe_refusal, leave_refusal, subscribes, unsubscribes, leaves, answer_refusal, suback_refusal, unsuback_refusal, subacks, unsubacks, is_due, pings, server_ticks, HasRoom, whole_size, Acts, Requests, Ticks};
 ghost use Rattle.mq_end.specs.declared.refusal.PublishRefusal.TheVariants as refusals;
 
+use crate::deadline::is_late;
 use crate::endpoint::Endpoint;
 use crate::laws::size_laws;
 use crate::reason::CloseReason;
@@ -89,7 +90,7 @@ impl Endpoint {
     ) -> Result<(), AllocError>
         requires free { IsFree self.old.end.book id }
         requires room { is_full self.old.capacity self.old.end.book ≡ false }
-        ensures ok { OnOk result (Acts (puts_out (packet.now ∷ [])
+        ensures ok { OnOk result (Acts (sends_packets (packet.now ∷ [])
             (record self.old.end { book = claim id kind count self.old.end.book; last = id })) self.old self.new) }
         ensures err { OnErr result (self.new ≡ self.old) }
     {
@@ -208,20 +209,12 @@ impl Endpoint {
         Ok(())
     }
 
-    /// Whether more than one and a half times the keep-alive has elapsed (3.1.2.10).
-    fn is_late(&self, now: u64) -> bool
-        ensures { result ≡ is_late self.now.last_activity self.now.end.keep_alive now }
-    {
-        let wait = 1_500 * u64::from(self.keep_alive);
-        wait > 0 && now > self.last_activity && now - self.last_activity > wait
-    }
-
     /// Closes the server's end if the client is late (3.1.2.10).
     pub(crate) fn tick_server(&mut self, now: u64) -> Option<CloseReason>
         ensures closed { result ≡ (server_ticks self.old.last_activity now self.old.end).close }
         ensures state { Acts (server_ticks self.old.last_activity now self.old.end) self.old self.new }
     {
-        if self.state == State::Connected && self.is_late(now) {
+        if self.state == State::Connected && is_late(self.last_activity, self.keep_alive, now) {
             return Some(self.close(CloseReason::KeepAlive));
         }
         None
@@ -233,7 +226,7 @@ impl Endpoint {
         ensures refused { IfSome (answer_refusal self.old.limit.most size self.old.end) (λ why. result ≡ Err why) }
         ensures memory { IfNone (answer_refusal self.old.limit.most size self.old.end)
             (IfErr result (λ why. why ≡ PublishRefusal.Memory)) }
-        ensures ok { OnOk result (Acts (puts_out (packet.now ∷ []) self.old.end) self.old self.new) }
+        ensures ok { OnOk result (Acts (sends_packets (packet.now ∷ []) self.old.end) self.old self.new) }
         ensures kept { answer_refusal self.old.limit.most size self.old.end ≡ None → (ms : List Message) (more : ℕ)
             → HasRoom ms (whole_size size + more) self.old → IsOk result × HasRoom ms more self.new }
         ensures err { OnErr result (self.new ≡ self.old) }

@@ -1,7 +1,7 @@
 //! Reserves room for connecting (3.2, 4.4).
 
 ghost use Rattle.std.specs.Prelude.{◌≡◌, ◌≤◌, ℕ, List, false, length, map, IfSome, OnOk};
-ghost use Rattle.mq_end.specs.Prelude.{list_any, Q0, resent, publish_packet, same_qos, AreEncodable, HasRise, HasRoom, packets_size, opens, server_gets};
+ghost use Rattle.mq_end.specs.Prelude.{list_any, Q0, resent, publish_packet, same_qos, AreEncodable, HasConnectRoom, HasRoom, packets_size, opens, server_gets};
 ghost use Rattle.mq_packet.specs.declared.packet.Packet.TheVariants as packets;
 
 use crate::endpoint::Endpoint;
@@ -61,10 +61,10 @@ impl Endpoint {
         messages: &[Message],
         more: usize,
     ) -> Result<(), AllocError>
-        ensures room { OnOk result (HasRise connect.now messages.now more self.new) }
+        ensures room { OnOk result (HasConnectRoom connect.now messages.now more self.new) }
         ensures same { self.new ≡ record self.old { room = self.new.room } }
         ensures before { (ms : List Message) (n : ℕ) → HasRoom ms n self.old → HasRoom ms n self.new }
-        ensures connect_end { (c : Connect) (ms : List Message) (n : ℕ) → HasRise c ms n self.old → HasRise c ms n self.new }
+        ensures connect_end { (c : Connect) (ms : List Message) (n : ℕ) → HasConnectRoom c ms n self.old → HasConnectRoom c ms n self.new }
     {
         let Some(connect_end) = self.size_of_rise(connect) else {
             return Err(AllocError);

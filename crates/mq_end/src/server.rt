@@ -1,7 +1,7 @@
 //! The server end.
 
 ghost use Rattle.std.specs.Prelude.{◌≡◌, ◌+◌, ◌<◌, ◌≤◌, ◌++◌, ◌↔◌, ℕ, List, [], ◌∷◌, true, false, length, drop, IsOk, IfOk, IfErr, IfSome, IfNone, IsSome, OnOk, OnErr, Ok, Err, None, Some};
-ghost use Rattle.mq_end.specs.Prelude.{Q2, fits_delivery, packet_of, same_qos, blank_end, is_live, is_up, over, resumed, would_hand, opens, ready_refusal, server_gets, server_publish_refusal, subacks, suback_refusal, unsubacks, unsuback_refusal, Acts, HearsAt, ServerReceives, Shows, TakesOne, TakesPacket, no_outcome, outcome_of, Accepts, CanRise, FitsRoom, CanSend, HasRise, HasRoom, is_exactly_once, is_plain, packets_size, whole_size, suback_size, unsuback_size, bytes_less, no_bytes, no_room, server_ticks, IsDeadline, is_overdue, KeepsWindow, FitsWithin};
+ghost use Rattle.mq_end.specs.Prelude.{Q2, fits_delivery, packet_of, same_qos, blank_end, is_live, is_up, over, resumed, would_hand, opens, ready_refusal, server_gets, server_publish_refusal, subacks, suback_refusal, unsubacks, unsuback_refusal, Acts, HearsAt, ServerReceives, Shows, TakesOne, TakesPacket, no_outcome, outcome_of, Accepts, AwaitsConnect, FitsRoom, CanSend, HasConnectRoom, HasRoom, is_exactly_once, is_plain, packets_size, whole_size, suback_size, unsuback_size, bytes_less, no_bytes, no_room, server_ticks, IsDeadline, is_overdue, KeepsWindow, FitsWithin};
 ghost use Rattle.mq_end.specs.declared.state.State.TheVariants as states;
 
 use crate::config::ServerConfig;
@@ -113,8 +113,8 @@ impl ServerEnd {
         ensures capacity { self.new.capacity ≡ self.old.capacity }
         ensures last_activity { self.new.last_activity ≡ now }
         ensures room { self.new.room ≡ self.old.room }
-        ensures waits { CanRise self.new }
-        ensures connect_end { (connect : Connect) (ms : List Message) (more : ℕ) → HasRise connect ms more self.old → HasRise connect ms more self.new }
+        ensures waits { AwaitsConnect self.new }
+        ensures connect_end { (connect : Connect) (ms : List Message) (more : ℕ) → HasConnectRoom connect ms more self.old → HasConnectRoom connect ms more self.new }
     {
         self.link.open_connection(now);
     }
@@ -185,8 +185,8 @@ impl ServerEnd {
             → FitsRoom (server_gets packet self.old.end).out self.old → IsOk result }
         ensures kept { is_up self.old.end.state ≡ true → (ms : List Message) (more : ℕ)
             → HasRoom ms (packets_size (server_gets packet self.old.end).out + more) self.old → HasRoom ms more self.new }
-        ensures rises { (connect : Connect) → packet ≡ Packet.Connect connect → CanRise self.old → (ms : List Message) (more : ℕ)
-            → HasRise connect ms more self.old → IsOk result × HasRoom ms more self.new }
+        ensures connects { (connect : Connect) → packet ≡ Packet.Connect connect → AwaitsConnect self.old → (ms : List Message) (more : ℕ)
+            → HasConnectRoom connect ms more self.old → IsOk result × HasRoom ms more self.new }
         ensures err { OnErr result (self.new ≡ self.old) }
     {
         self.link.take_packet(now, packet)
@@ -197,7 +197,7 @@ impl ServerEnd {
     /// On `Err` nothing changes; within the reserved room that happens only for a stored
     /// identifier.
     #[inline(always)]
-    pub fn take_publish(
+    pub fn receive_publish(
         &mut self,
         now: u64,
         message: &Message,
@@ -215,7 +215,7 @@ impl ServerEnd {
             → HasRoom ms more self.new }
         ensures err { OnErr result (self.new ≡ self.old) }
     {
-        self.link.take_publish_of(now, message, delivery)
+        self.link.receive_publish(now, message, delivery)
     }
 
     /// Reserves room to connect by this CONNECT on a new connection: for CONNACK and all
@@ -229,10 +229,10 @@ impl ServerEnd {
         messages: &[Message],
         more: usize,
     ) -> Result<(), AllocError>
-        ensures room { OnOk result (HasRise connect.now messages.now more self.new) }
+        ensures room { OnOk result (HasConnectRoom connect.now messages.now more self.new) }
         ensures same { self.new ≡ record self.old { room = self.new.room } }
         ensures before { (ms : List Message) (size : ℕ) → HasRoom ms size self.old → HasRoom ms size self.new }
-        ensures connect_end { (other : Connect) (ms : List Message) (size : ℕ) → HasRise other ms size self.old → HasRise other ms size self.new }
+        ensures connect_end { (other : Connect) (ms : List Message) (size : ℕ) → HasConnectRoom other ms size self.old → HasConnectRoom other ms size self.new }
     {
         self.link.reserve_connect(connect, messages, more)
     }
@@ -378,7 +378,7 @@ impl ServerEnd {
         ensures capacity { self.new.capacity ≡ self.old.capacity }
         ensures last_activity { self.new.last_activity ≡ self.old.last_activity }
         ensures room { self.new.room ≡ self.old.room }
-        ensures connect_end { (connect : Connect) (ms : List Message) (more : ℕ) → HasRise connect ms more self.old → HasRise connect ms more self.new }
+        ensures connect_end { (connect : Connect) (ms : List Message) (more : ℕ) → HasConnectRoom connect ms more self.old → HasConnectRoom connect ms more self.new }
     {
         self.link.drop_connection();
     }

@@ -9,7 +9,8 @@ use Rattle.mq_bytes.specs.declared.places.Front.{Front}
 use Rattle.mq_bytes.specs.declared.places.PacketFields.{PacketFields}
 use Rattle.mq_bytes.specs.Places.{IsLocated}
 use Rattle.mq_ffi.specs.declared.exports.Fault.{Fault}
-use Rattle.mq_ffi.specs.Codes.{check_code, encode_code, match_code}
+use Rattle.mq_ffi.specs.Codes.{encode_code}
+use Rattle.mq_ffi.specs.Inside.Codes.{check_code, match_code}
 use Rattle.mq_ffi.specs.Exports.{CodesOf, ReportsFront, ReportsPacket, bounds}
 
 pub packet_reported : (most : ℕ) (lenient : Bool) (limits : Bounds) (b : List ℕ) (front : Front) (fields : PacketFields) (fault : Fault) (code : ℤ) → limits ≡ bounds most lenient → IsLocated limits b front → ReportsFront front fields fault code → ReportsPacket most lenient b fields fault code

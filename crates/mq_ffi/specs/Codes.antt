@@ -1,5 +1,5 @@
 -- The numbers that the functions return.
-use Rattle.std.specs.Prelude.{ℕ, ◌+◌, Bool, true, false, Option, None, Some, Result, Ok, Err, ℤ, pos, negsuc}
+use Rattle.std.specs.Prelude.{ℕ, ◌+◌, Option, None, Some, Result, Ok, Err, ℤ, pos, negsuc}
 use Rattle.mq_bytes.specs.declared.fault.CheckFault.{CheckFault}
 use Rattle.mq_bytes.specs.declared.fault.CheckFault.TheVariants as checks
 use Rattle.mq_bytes.specs.declared.fault.EncodeFault.{EncodeFault}
@@ -17,15 +17,6 @@ fault_code checks.Text = negsuc 4
 fault_code checks.Name = negsuc 5
 fault_code checks.Filter = negsuc 6
 fault_code checks.Session = negsuc 7
-
-abbrev pub check_code : Result (Unit {0}) CheckFault → ℤ
-check_code (Ok done) = pos 0
-check_code (Err fault) = fault_code fault
-
-abbrev pub match_code : Result Bool CheckFault → ℤ
-match_code (Ok false) = pos 0
-match_code (Ok true) = pos 1
-match_code (Err fault) = fault_code fault
 
 abbrev pub encode_code : Result ℕ EncodeFault → ℤ
 encode_code (Ok size) = pos size

@@ -3,3 +3,4 @@ pub mod Clients
 pub mod Codes
 pub mod Exports
 pub mod Prelude
+pub mod Inside

@@ -1,6 +1,7 @@
 -- A file that is replaced by another.
 use Rattle.std.proofs.Common.{◌≡◌, inl, ℕ, List, [], ◌∷◌, ◌++◌, Option, Some, None, sym, ap, ap₂, subst, ◌∙◌}
-use Rattle.mq_file.specs.Named.{Content, Files, IsOldOrNew, IsReplaced, Leads, MayBe, OthersAreKept, OthersStay, Outcomes, Related, Removed, Renamed, Synced, Throughout, Unchanged, Wrote, Writes, present}
+use Rattle.mq_file.specs.Named.{Content, Files, IsOldOrNew, IsReplaced, Leads, MayBe, OthersStay, Outcomes, Related, Removed, Renamed, Synced, Throughout, Unchanged, Wrote, Writes, present}
+use Rattle.mq_file.specs.Inside.Named.{OthersAreKept}
 use Rattle.mq_file.proofs.Times.{after, by_call, by_write, call_leads, end_of, leads_both, may_be_last, may_be_present, present_last, write_leads}
 
 -- an outcome of equal lists

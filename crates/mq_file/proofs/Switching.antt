@@ -1,6 +1,7 @@
 -- A folder that continues in another journal.
 use Rattle.std.proofs.Common.{◌≡◌, inl, inr, ℕ, List, [], ◌∷◌, Option, Some, None, sym, ap, ◌∙◌}
-use Rattle.mq_file.specs.Named.{AreApart, Content, Files, IsEitherPair, IsOldOrNew, IsReplaced, IsSwitched, Leads, MayBe, OthersAreKept, Outcomes, Related, Removed, Throughout, present}
+use Rattle.mq_file.specs.Named.{AreApart, Content, Files, IsEitherPair, IsOldOrNew, IsReplaced, IsSwitched, Leads, MayBe, Outcomes, Related, Removed, Throughout, present}
+use Rattle.mq_file.specs.Inside.Named.{OthersAreKept}
 use Rattle.mq_file.proofs.Times.{after, both_lead, call_leads, end_of, leads_both, present_last, weaker}
 use Rattle.mq_file.proofs.Replacing.{along}
 

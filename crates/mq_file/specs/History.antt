@@ -1,5 +1,5 @@
 -- A file as the record of its calls.
-use Rattle.std.specs.Prelude.{◌≡◌, ◌⊎◌, ℕ, ◌+◌, ◌≤◌, ◌==◌, List, [], ◌∷◌, ◌++◌, length, take, drop, slice_index, if◌then◌else◌}
+use Rattle.std.specs.Prelude.{◌≡◌, ◌⊎◌, ℕ, ◌+◌, ◌≤◌, List, [], ◌∷◌, ◌++◌, length, take, drop}
 use Rattle.mq_log.specs.Disk.{Torn}
 
 -- A call on a file: a write of bytes at an offset that succeeded, or that failed; a sync that
@@ -9,13 +9,6 @@ pub data FileCall : Type 0 where
   Stumbled : (at : ℕ) → (bytes : List ℕ) → FileCall
   Synced : FileCall
   Failed : FileCall
-
--- the call that two numbers and bytes describe
-abbrev pub call_of : List ℕ → List ℕ → FileCall
-call_of numbers bytes =
-    if slice_index numbers 0 == 0 then Wrote (slice_index numbers 1) bytes
-    else (if slice_index numbers 0 == 1 then Stumbled (slice_index numbers 1) bytes
-    else (if slice_index numbers 0 == 2 then Synced else Failed))
 
 -- the content after calls on a new file, the newest call first
 abbrev pub seen_after : List FileCall → List ℕ

@@ -4,3 +4,4 @@ pub mod History
 pub mod Named
 pub mod Prelude
 pub mod Times
+pub mod Inside

@@ -94,11 +94,6 @@ Throughout P (Some old) (Some new) =
 abbrev pub IsReplaced : List ℕ → List ℕ → Outcomes → Outcomes → Type 0
 IsReplaced name bytes old new = new name ≡ Some bytes ∷ []
 
--- a crash leaves what it might have left before under each name, except under this one
-abbrev pub OthersAreKept : List ℕ → Outcomes → Outcomes → Type 0
-OthersAreKept name old new =
-    (other : List ℕ) → ¬ other ≡ name → (left : Content) → MayBe left (new other) → MayBe left (old other)
-
 -- A crash leaves the old file or the one with these bytes under this name. `next` is the name of a
 -- file that is being written. Each other file is as before.
 pub record IsOldOrNew (next name bytes : List ℕ) (old new : Outcomes) : Type 0 where

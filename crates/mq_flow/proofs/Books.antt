@@ -8,7 +8,7 @@ use Rattle.mq_packet.specs.declared.message.Message.{Message}
 use Rattle.mq_packet.specs.Identifier.{IsIdentifier}
 use Rattle.mq_packet.specs.declared.packet.Packet.{Packet}
 use Rattle.mq_packet.specs.declared.packet.Packet.TheVariants as packets
-use Rattle.mq_flow.specs.declared.entry.Entry.{Entry}
+use Rattle.mq_flow.specs.declared.entry.SenderEntry.{SenderEntry}
 use Rattle.mq_flow.specs.declared.claim.Claimed.{Claimed}
 use Rattle.mq_flow.specs.declared.claim.Claim.{Claim}
 use Rattle.mq_flow.specs.Sender.{SenderBook, blank_book, uses, times, IsFree, is_full, is_awaited, accept, on_puback, on_pubrec, on_pubcomp, all_sent, claim, release, no_claims, without, without_entry, without_claim, pubrec_answer}
@@ -24,9 +24,9 @@ times_uses i b =
 
 pub length_uses : (b : SenderBook) → length (uses b) ≡ length b.entries + (length b.released + length b.claimed)
 length_uses b =
-    let e = length-append (map (λ (e : Entry). e.id) b.entries) (b.released ++ map (λ c. c.id) b.claimed) in
+    let e = length-append (map (λ (e : SenderEntry). e.id) b.entries) (b.released ++ map (λ c. c.id) b.claimed) in
     let f = length-append b.released (map (λ (c : Claimed). c.id) b.claimed) in
-    let g = length-map b.entries (λ (e : Entry). e.id) in
+    let g = length-map b.entries (λ (e : SenderEntry). e.id) in
     let h = length-map b.claimed (λ (c : Claimed). c.id) in
     omega arith
 
@@ -52,7 +52,7 @@ times_accept i j m sent b =
     let e = times_uses j (accept i m sent b) in
     let f = times_uses j b in
     let g : times j (map (λ e. e.id) (accept i m sent b).entries) ≡ times j (map (λ e. e.id) b.entries) + times j (i ∷ []) =
-    rw (map-append (λ (e : Entry). e.id)) (times_append j (map (λ e. e.id) b.entries) (i ∷ [])) in
+    rw (map-append (λ (e : SenderEntry). e.id)) (times_append j (map (λ e. e.id) b.entries) (i ∷ [])) in
     omega arith
 
 pub length_accept : (i : ℕ) (m : Message) (sent : Bool) (b : SenderBook) → length (uses (accept i m sent b)) ≡ length (uses b) + 1
@@ -123,7 +123,7 @@ sound_puback capacity i b s =
         omega arith)
         (let e = length_uses b in
         let f = length_uses (record b { entries = without_entry i b.entries }) in
-        let g = filter_le (λ (e : Entry). not (eqb e.id i)) b.entries in
+        let g = filter_le (λ (e : SenderEntry). not (eqb e.id i)) b.entries in
         omega arith)
         s
 
@@ -154,8 +154,8 @@ pubrec_length i b t =
     let f = length_uses c in
     let r = length-append b.released (i ∷ []) in
     let w = ap length (ids_without i b.entries) in
-    let x = length-map b.entries (λ (e : Entry). e.id) in
-    let y = length-map (without_entry i b.entries) (λ (e : Entry). e.id) in
+    let x = length-map b.entries (λ (e : SenderEntry). e.id) in
+    let y = length-map (without_entry i b.entries) (λ (e : SenderEntry). e.id) in
     let z = without_fewer i (map (λ e. e.id) b.entries) (awaited_there Q2 i b.entries t) in
     omega arith
 
@@ -202,7 +202,7 @@ sound_drop capacity b s =
     (let e = length_uses b in let f = length_uses (no_claims b) in omega arith)
     s
 
-pub ids_sent : (es : List Entry) → map (λ (e : Entry). e.id) (map (λ (e : Entry). record { id = e.id; message = e.message; sent = true }) es) ≡ map (λ (e : Entry). e.id) es
+pub ids_sent : (es : List SenderEntry) → map (λ (e : SenderEntry). e.id) (map (λ (e : SenderEntry). record { id = e.id; message = e.message; sent = true }) es) ≡ map (λ (e : SenderEntry). e.id) es
 ids_sent [] = refl
 ids_sent (e ∷ es) = ap (λ (xs : List ℕ). e.id ∷ xs) (ids_sent es)
 

@@ -3,7 +3,7 @@ use Rattle.std.proofs.Common.{◌≡◌, ℕ, ◌+◌, ◌≤◌, Bool, true, fa
 use Rattle.std.proofs.lemmas.Bool.{cases_eq, ne_eqb, cond_both}
 use Rattle.std.proofs.lemmas.Bool.Decides.{nat_tests}
 use Rattle.mq_topic.specs.declared.qos.Qos.{Qos}
-use Rattle.mq_flow.specs.declared.entry.Entry.{Entry}
+use Rattle.mq_flow.specs.declared.entry.SenderEntry.{SenderEntry}
 use Rattle.mq_flow.specs.declared.claim.Claimed.{Claimed}
 use Rattle.mq_flow.specs.Sender.{times, without, without_entry, without_claim, is_awaited, same_qos}
 
@@ -96,15 +96,15 @@ map_filter {A} {B} f p (x ∷ xs) = elim (p (f x)) as (λ b. map f (cond b (x �
   | false ↦ map_filter f p xs
 ]
 
-pub ids_without : (i : ℕ) (es : List Entry) → map (λ e. e.id) (without_entry i es) ≡ without i (map (λ e. e.id) es)
-ids_without i es = map_filter (λ (e : Entry). e.id) (λ j. not (eqb j i)) es
+pub ids_without : (i : ℕ) (es : List SenderEntry) → map (λ e. e.id) (without_entry i es) ≡ without i (map (λ e. e.id) es)
+ids_without i es = map_filter (λ (e : SenderEntry). e.id) (λ j. not (eqb j i)) es
 
 pub claims_without : (i : ℕ) (cs : List Claimed) → map (λ c. c.id) (without_claim i cs) ≡ without i (map (λ c. c.id) cs)
 claims_without i cs = map_filter (λ (c : Claimed). c.id) (λ j. not (eqb j i)) cs
 
 -- ---- Pending messages are in the table
 
-pub awaited_there : (q : Qos) (i : ℕ) (es : List Entry) → is_awaited q i es ≡ true → 1 ≤ times i (map (λ e. e.id) es)
+pub awaited_there : (q : Qos) (i : ℕ) (es : List SenderEntry) → is_awaited q i es ≡ true → 1 ≤ times i (map (λ e. e.id) es)
 awaited_there q i [] h = absurd (true_false (sym h))
   where
     true_false : true ≡ false → ⊥

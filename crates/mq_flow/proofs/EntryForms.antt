@@ -7,7 +7,7 @@ use Rattle.mq_topic.specs.Qos.{qos_number}
 use Rattle.mq_topic.specs.Topic.{IsTopicName}
 use Rattle.mq_packet.specs.declared.message.Message.{Message}
 use Rattle.mq_packet.specs.Encoding.{bit}
-use Rattle.mq_flow.specs.declared.entry.Entry.{Entry}
+use Rattle.mq_flow.specs.declared.entry.SenderEntry.{SenderEntry}
 use Rattle.mq_flow.specs.declared.load.Flags.{Flags}
 use Rattle.mq_flow.specs.Sender.{SenderBook, uses, times, IsFree, accept}
 use Rattle.mq_flow.specs.Laws.{IsSound}
@@ -49,7 +49,7 @@ message_again limit f m rest q r topic within = rw (topic_again m.topic (saved_p
 -- ---- an entry
 
 -- The result of reading an entry.
-pub record EntryTaken (limit : ℕ) (b : SenderBook) (bytes : List ℕ) (e : Entry) (rest : List ℕ) : Type 0 where
+pub record EntryTaken (limit : ℕ) (b : SenderBook) (bytes : List ℕ) (e : SenderEntry) (rest : List ℕ) : Type 0 where
   pub takes : Takes bytes (saved_entry e) rest
   pub free : IsFree b e.id
   pub kept : IsKept limit e
@@ -57,7 +57,7 @@ pub record EntryTaken (limit : ℕ) (b : SenderBook) (bytes : List ℕ) (e : Ent
 same_flags : (f : Flags) (m : Message) → m.qos ≡ f.qos → m.retain ≡ f.retain → flag_bytes f ≡ qos_number m.qos ∷ bit f.sent ∷ bit m.retain ∷ []
 same_flags f m q r = rw (q, r) refl
 
-entry_found : (limit : ℕ) → (b : SenderBook) (bytes : List ℕ) (x : Entry × List ℕ) → AreBytes bytes → entry_at limit b bytes ≡ Ok x → EntryTaken limit b bytes x.0 x.1
+entry_found : (limit : ℕ) → (b : SenderBook) (bytes : List ℕ) (x : SenderEntry × List ℕ) → AreBytes bytes → entry_at limit b bytes ≡ Ok x → EntryTaken limit b bytes x.0 x.1
 unfolding entry_at
 entry_found limit b bytes x h e =
     let i = bind_ok (free_at b bytes) (λ id. flags_at id.1 >>= λ flags. message_at limit flags.0 flags.1 >>= λ message. Ok (record { id = id.0; message = message.0; sent = flags.0.sent }, message.1)) x e in
@@ -66,14 +66,14 @@ entry_found limit b bytes x h e =
     let a = free_found b bytes i.0 h i.1 in
     let c = flags_found i.0.1 f.0 a.0.rest_bytes f.1 in
     let d = message_found limit f.0.0 f.0.1 m.0 c.0.rest_bytes m.1 in
-    let made : Entry × List ℕ = (record { id = i.0.0; message = m.0.0; sent = f.0.0.sent }, m.0.1) in
+    let made : SenderEntry × List ℕ = (record { id = i.0.0; message = m.0.0; sent = f.0.0.sent }, m.0.1) in
     let marks : Takes i.0.1 (saved_flags made.0) f.0.1 = subst (λ (t : List ℕ). Takes i.0.1 t f.0.1) (same_flags f.0.0 m.0.0 d.qos d.retain) c.0 in
     let body = counted m.0.0.topic ++ saved_payload m.0.0.payload in
     let all = Takes-then (number i.0.0) (saved_flags made.0 ++ body) a.0 (Takes-then (saved_flags made.0) body marks d.takes) in
-    subst (λ (y : Entry × List ℕ). EntryTaken limit b bytes y.0 y.1) (ok_is made x m.2)
+    subst (λ (y : SenderEntry × List ℕ). EntryTaken limit b bytes y.0 y.1) (ok_is made x m.2)
     (record { takes = all; free = a.1; kept = record { acknowledged = λ z. c.1 (sym d.qos ∙ z); topic = d.topic; within = d.within } })
 
-entry_again : (limit : ℕ) → (b : SenderBook) (e : Entry) (rest : List ℕ) → IsFree b e.id → IsKept limit e → entry_at limit b (saved_entry e ++ rest) ≡ Ok (e, rest)
+entry_again : (limit : ℕ) → (b : SenderBook) (e : SenderEntry) (rest : List ℕ) → IsFree b e.id → IsKept limit e → entry_at limit b (saved_entry e ++ rest) ≡ Ok (e, rest)
 unfolding entry_at
 entry_again limit b e rest free kept =
     let f : Flags = record { qos = e.message.qos; sent = e.sent; retain = e.message.retain } in
@@ -84,11 +84,11 @@ entry_again limit b e rest free kept =
 
 -- ---- entries
 
-abbrev pub more_entries : SenderBook → List Entry → SenderBook
+abbrev pub more_entries : SenderBook → List SenderEntry → SenderBook
 more_entries b es = record b { entries = b.entries ++ es }
 
 pub record EntriesTaken (limit : ℕ) (n : ℕ) (b : SenderBook) (bytes : List ℕ) (after : SenderBook) (rest : List ℕ) : Type 0 where
-  pub entries : List Entry
+  pub entries : List SenderEntry
   pub book : after ≡ more_entries b entries
   pub takes : Takes bytes (flat_map saved_entry entries) rest
   pub counted : length entries ≡ n
@@ -102,7 +102,7 @@ entries_found limit zero b bytes x h e =
     subst (λ (y : SenderBook × List ℕ). EntriesTaken limit 0 b bytes y.0 y.1) (ok_is (b, bytes) x e)
     (record {
       entries = [];
-      book = ap (λ (es : List Entry). record b { entries = es }) (sym (append-nil b.entries));
+      book = ap (λ (es : List SenderEntry). record b { entries = es }) (sym (append-nil b.entries));
       takes = takes bytes [] bytes h refl;
       counted = refl;
       each = tt;
@@ -119,7 +119,7 @@ entries_found limit (suc n) b bytes x h e =
     let grown = length_accept i.0.0.id i.0.0.message i.0.0.sent b in
     record {
       entries = i.0.0 ∷ others.entries;
-      book = others.book ∙ ap (λ (es : List Entry). record b { entries = es }) (append_assoc b.entries (i.0.0 ∷ []) others.entries);
+      book = others.book ∙ ap (λ (es : List SenderEntry). record b { entries = es }) (append_assoc b.entries (i.0.0 ∷ []) others.entries);
       takes = Takes-then (saved_entry i.0.0) (flat_map saved_entry others.entries) one.takes others.takes;
       counted = omega (arith, others.counted);
       each = (one.kept, others.each);
@@ -134,22 +134,22 @@ free_before : (c i : ℕ) (b : SenderBook) (after : SenderBook) (more : ℕ) →
 free_before c i b after more s t =
     let d = s.distinct i in (s.identifiers i (omega arith), omega arith)
 
-times_entries : (i : ℕ) (b : SenderBook) (es : List Entry) → times i (uses (more_entries b es)) ≡ times i (uses b) + times i (map (λ e. e.id) es)
+times_entries : (i : ℕ) (b : SenderBook) (es : List SenderEntry) → times i (uses (more_entries b es)) ≡ times i (uses b) + times i (map (λ e. e.id) es)
 times_entries i b es =
     let e = times_uses i (more_entries b es) in
     let f = times_uses i b in
     let g : times i (map (λ e. e.id) (b.entries ++ es)) ≡ times i (map (λ e. e.id) b.entries) + times i (map (λ e. e.id) es) =
-    rw (map-append (λ (e : Entry). e.id)) (times_append i (map (λ e. e.id) b.entries) (map (λ e. e.id) es)) in
+    rw (map-append (λ (e : SenderEntry). e.id)) (times_append i (map (λ e. e.id) b.entries) (map (λ e. e.id) es)) in
     omega arith
 
-entries_step : (limit : ℕ) → (n : ℕ) (b : SenderBook) (bytes : List ℕ) (e : Entry) (rest : List ℕ) → entry_at limit b bytes ≡ Ok (e, rest)
+entries_step : (limit : ℕ) → (n : ℕ) (b : SenderBook) (bytes : List ℕ) (e : SenderEntry) (rest : List ℕ) → entry_at limit b bytes ≡ Ok (e, rest)
     → entries_at limit (suc n) b bytes ≡ entries_at limit n (accept e.id e.message e.sent b) rest
 unfolding with_entry_at
 entries_step limit n b bytes e rest read = rw read refl
 
-pub entries_again : (limit : ℕ) → (n : ℕ) (es : List Entry) (b : SenderBook) (c : ℕ) (rest : List ℕ) → length es ≡ n → IsSound c (more_entries b es) → AllByRecursion (IsKept limit) es
+pub entries_again : (limit : ℕ) → (n : ℕ) (es : List SenderEntry) (b : SenderBook) (c : ℕ) (rest : List ℕ) → length es ≡ n → IsSound c (more_entries b es) → AllByRecursion (IsKept limit) es
     → entries_at limit n b (flat_map saved_entry es ++ rest) ≡ Ok (more_entries b es, rest)
-entries_again limit zero [] b c rest l s each = ap (λ (es : List Entry). Ok (record b { entries = es }, rest)) (sym (append-nil b.entries))
+entries_again limit zero [] b c rest l s each = ap (λ (es : List SenderEntry). Ok (record b { entries = es }, rest)) (sym (append-nil b.entries))
 entries_again limit zero (e ∷ es) b c rest l s each = absurd (omega arith)
 entries_again limit (suc n) [] b c rest l s each = absurd (omega arith)
 entries_again limit (suc n) (e ∷ es) b c rest l s each =
@@ -157,14 +157,14 @@ entries_again limit (suc n) (e ∷ es) b c rest l s each =
     let one = times_same e.id (map (λ e. e.id) es) in
     let free = free_before c e.id b (more_entries b (e ∷ es)) (times e.id (map (λ e. e.id) es)) s (omega arith) in
     let joined : (b.entries ++ e ∷ []) ++ es ≡ b.entries ++ e ∷ es = append_assoc b.entries (e ∷ []) es in
-    let sound : IsSound c (more_entries (accept e.id e.message e.sent b) es) = subst (λ (l : List Entry). IsSound c (record b { entries = l })) (sym joined) s in
+    let sound : IsSound c (more_entries (accept e.id e.message e.sent b) es) = subst (λ (l : List SenderEntry). IsSound c (record b { entries = l })) (sym joined) s in
     let others = entries_again limit n es (accept e.id e.message e.sent b) c rest (omega arith) sound each.1 in
     let first = entry_again limit b e (flat_map saved_entry es ++ rest) free each.0 in
     let regrouped : flat_map saved_entry (e ∷ es) ++ rest ≡ saved_entry e ++ (flat_map saved_entry es ++ rest) = append_assoc (saved_entry e) (flat_map saved_entry es) rest in
     ap (entries_at limit (suc n) b) regrouped
     ∙ entries_step limit n b (saved_entry e ++ (flat_map saved_entry es ++ rest)) e (flat_map saved_entry es ++ rest) first
     ∙ others
-    ∙ ap (λ (l : List Entry). Ok (record b { entries = l }, rest)) joined
+    ∙ ap (λ (l : List SenderEntry). Ok (record b { entries = l }, rest)) joined
 
 -- ---- released identifiers
 

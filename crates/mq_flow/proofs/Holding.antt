@@ -7,11 +7,12 @@ use Rattle.std.specs.Map.{keys_of, lookup, remove_entry}
 use Rattle.std.proofs.lemmas.Bool.{cases_eq, ne_eqb, lt-ltb, le-ltb}
 use Rattle.std.proofs.lemmas.List.{map-id}
 use Rattle.mq_topic.specs.declared.qos.Qos.{Qos}
-use Rattle.mq_flow.specs.declared.entry.Entry.{Entry}
+use Rattle.mq_flow.specs.declared.entry.SenderEntry.{SenderEntry}
 use Rattle.mq_flow.specs.declared.table.Held.{Held}
 use Rattle.mq_flow.specs.declared.table.Held.TheVariants.{Waiting, Released}
 use Rattle.mq_flow.specs.Sender.{times, same_qos, is_awaited, without, without_entry}
-use Rattle.mq_flow.specs.Held.{messages, releases, id_in, AreUnder, gone_out}
+use Rattle.mq_flow.specs.Held.{messages, releases, id_in, AreUnder}
+use Rattle.mq_flow.specs.Inside.Held.{gone_out}
 use Rattle.mq_flow.proofs.Counting.{times_same, times_other, without_absent, awaited_there, eqb_self}
 use Rattle.mq_flow.proofs.Queues.{others_same, others_other, others_absent, any_times}
 
@@ -21,7 +22,7 @@ pub times_keys : (ps : List (ℕ × Held)) → AreUnder ps → (i : ℕ) → tim
 times_keys [] u i = refl
 times_keys ((k, Waiting e) ∷ ps) u i =
     let h = times_keys ps u.1 i in
-    let x = ap (λ (j : ℕ). times i (j ∷ map (λ (e : Entry). e.id) (messages ps))) u.0 in
+    let x = ap (λ (j : ℕ). times i (j ∷ map (λ (e : SenderEntry). e.id) (messages ps))) u.0 in
     omega arith
 times_keys ((k, Released r) ∷ ps) u i =
     let h = times_keys ps u.1 i in
@@ -79,7 +80,7 @@ never : (b : Bool) → (b ≡ true → ⊥) → b ≡ false
 never true n = absurd (n refl)
 never false n = refl
 
-not_awaited : (q : Qos) (i : ℕ) (es : List Entry) → times i (map (λ e. e.id) es) ≡ 0 → is_awaited q i es ≡ false
+not_awaited : (q : Qos) (i : ℕ) (es : List SenderEntry) → times i (map (λ e. e.id) es) ≡ 0 → is_awaited q i es ≡ false
 not_awaited q i es z = never (is_awaited q i es) (λ t. let h = awaited_there q i es t in absurd (omega arith))
 
 -- ---- Look-ups in the book
@@ -133,7 +134,7 @@ waiting_found i ((k, Waiting e) ∷ ps) u once = elim (cases_eq i k) [
 waiting_found i ((k, Released r) ∷ ps) u once = elim (cases_eq i k) [
   | inl s ↦
       let z = no_message i ps u.1 (alone i k (Released r) ps s once) in
-      any_times (λ (e : Entry). e.id) i (messages ps) ∙ le-ltb 0 (times i (map (λ e. e.id) (messages ps))) (omega arith) ∙ sym (ap waiting_in (lookup_here i k (Released r) ps s))
+      any_times (λ (e : SenderEntry). e.id) i (messages ps) ∙ le-ltb 0 (times i (map (λ e. e.id) (messages ps))) (omega arith) ∙ sym (ap waiting_in (lookup_here i k (Released r) ps s))
   | inr n ↦ waiting_found i ps u.1 (once_rest k (Released r) ps once) ∙ sym (ap waiting_in (lookup_there i k (Released r) ps n))
 ]
 
@@ -166,13 +167,13 @@ messages_removed i [] u once = refl
 messages_removed i ((k, Waiting e) ∷ ps) u once = elim (cases_eq i k) [
   | inl s ↦
       ap messages (remove_here i k (Waiting e) ps s)
-      ∙ sym (others_same (λ (e : Entry). e.id) i e (messages ps) (u.0 ∙ sym s) ∙ others_absent (λ (e : Entry). e.id) i (messages ps) (no_message i ps u.1 (alone i k (Waiting e) ps s once)))
+      ∙ sym (others_same (λ (e : SenderEntry). e.id) i e (messages ps) (u.0 ∙ sym s) ∙ others_absent (λ (e : SenderEntry). e.id) i (messages ps) (no_message i ps u.1 (alone i k (Waiting e) ps s once)))
   | inr n ↦
-      ap messages (remove_there i k (Waiting e) ps n) ∙ ap (λ (es : List Entry). e ∷ es) (messages_removed i ps u.1 (once_rest k (Waiting e) ps once))
-      ∙ sym (others_other (λ (e : Entry). e.id) i e (messages ps) (λ t. n (sym t ∙ u.0)))
+      ap messages (remove_there i k (Waiting e) ps n) ∙ ap (λ (es : List SenderEntry). e ∷ es) (messages_removed i ps u.1 (once_rest k (Waiting e) ps once))
+      ∙ sym (others_other (λ (e : SenderEntry). e.id) i e (messages ps) (λ t. n (sym t ∙ u.0)))
 ]
 messages_removed i ((k, Released r) ∷ ps) u once = elim (cases_eq i k) [
-  | inl s ↦ ap messages (remove_here i k (Released r) ps s) ∙ sym (others_absent (λ (e : Entry). e.id) i (messages ps) (no_message i ps u.1 (alone i k (Released r) ps s once)))
+  | inl s ↦ ap messages (remove_here i k (Released r) ps s) ∙ sym (others_absent (λ (e : SenderEntry). e.id) i (messages ps) (no_message i ps u.1 (alone i k (Released r) ps s once)))
   | inr n ↦ ap messages (remove_there i k (Released r) ps n) ∙ messages_removed i ps u.1 (once_rest k (Released r) ps once)
 ]
 
@@ -216,7 +217,7 @@ under_gone (p ∷ ps) u = (id_gone p.1 ∙ u.0, under_gone ps u.1)
 
 pub messages_gone : (ps : List (ℕ × Held)) → messages (map (λ p. (p.0, gone_out p.1)) ps) ≡ map (λ e. record { id = e.id; message = e.message; sent = true }) (messages ps)
 messages_gone [] = refl
-messages_gone ((k, Waiting e) ∷ ps) = ap (λ (es : List Entry). record { id = e.id; message = e.message; sent = true } ∷ es) (messages_gone ps)
+messages_gone ((k, Waiting e) ∷ ps) = ap (λ (es : List SenderEntry). record { id = e.id; message = e.message; sent = true } ∷ es) (messages_gone ps)
 messages_gone ((k, Released r) ∷ ps) = messages_gone ps
 
 pub releases_gone : (ps : List (ℕ × Held)) → releases (map (λ p. (p.0, gone_out p.1)) ps) ≡ releases ps

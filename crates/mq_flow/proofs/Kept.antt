@@ -10,13 +10,14 @@ use Rattle.std.proofs.lemmas.List.{map-id}
 use Rattle.mq_topic.specs.declared.qos.Qos.{Qos}
 use Rattle.mq_topic.specs.declared.qos.Qos.TheVariants.{Q0, Q1, Q2}
 use Rattle.mq_packet.specs.declared.message.Message.{Message}
-use Rattle.mq_flow.specs.declared.entry.Entry.{Entry}
+use Rattle.mq_flow.specs.declared.entry.SenderEntry.{SenderEntry}
 use Rattle.mq_flow.specs.declared.claim.Claim.{Claim}
 use Rattle.mq_flow.specs.declared.claim.Claimed.{Claimed}
 use Rattle.mq_flow.specs.declared.table.Held.{Held}
 use Rattle.mq_flow.specs.declared.table.Held.TheVariants.{Waiting, Released}
 use Rattle.mq_flow.specs.Sender.{SenderBook, uses, times, IsFree, is_full, same_qos, is_awaited, accept, claim, release, no_claims, all_sent, on_puback, on_pubrec, on_pubcomp, without, without_entry, without_claim}
-use Rattle.mq_flow.specs.Held.{message_in, release_in, messages, releases, book_of, AreUnder, gone_out}
+use Rattle.mq_flow.specs.Held.{message_in, release_in, messages, releases, book_of, AreUnder}
+use Rattle.mq_flow.specs.Inside.Held.{gone_out}
 use Rattle.mq_flow.specs.Loading.{with_released}
 use Rattle.mq_flow.specs.Sending.{Sending, Keeps}
 use Rattle.mq_flow.specs.Laws.{IsSound}
@@ -75,7 +76,7 @@ released_acknowledged capacity i ps cs s h =
     let r : ltb 0 (times i (releases ps)) ≡ true = sym (any_times (λ (j : ℕ). j) i (releases ps) ∙ ap (λ (l : List ℕ). ltb 0 (times i l)) (map-id (releases ps))) ∙ h in
     let t = times_uses i (book_of ps cs) in
     let d = s.distinct i in
-    others_absent (λ (e : Entry). e.id) i (messages ps) (grind (arith, nat_tests))
+    others_absent (λ (e : SenderEntry). e.id) i (messages ps) (grind (arith, nat_tests))
 
 pub table_accept : (i : ℕ) (m : Message) (sent : Bool) (ps : List (ℕ × Held)) (cs : List Claimed) → book_of (ps ++ (i, Waiting (record { id = i; message = m; sent = sent })) ∷ []) cs ≡ accept i m sent (book_of ps cs)
 table_accept i m sent ps cs = λ t. record {
@@ -123,7 +124,7 @@ keeps_accept s i message sent k room free acknowledged = record {
   sound = laws.accepts s.capacity i message sent s.book room free k.sound;
   able = k.able;
   most = k.most;
-  acknowledged = none_push (λ (e : Entry). same_qos Q0 e.message.qos) s.book.entries _ k.acknowledged (not_zero message acknowledged);
+  acknowledged = none_push (λ (e : SenderEntry). same_qos Q0 e.message.qos) s.book.entries _ k.acknowledged (not_zero message acknowledged);
 }
   where
     not_zero : (message : Message) → (message.qos ≡ Q0 → ⊥) → same_qos Q0 message.qos ≡ false
@@ -147,15 +148,15 @@ keeps_release s i k = keeps_same s (release i s.book) k (laws.releases s.capacit
 pub keeps_no_claims : (s : Sending) → Keeps s → Keeps (record s { book = no_claims s.book })
 keeps_no_claims s k = keeps_same s (no_claims s.book) k (laws.drops s.capacity s.book k.sound) k.acknowledged
 
-pub none_sent : (es : List Entry) → list_any (λ (e : Entry). same_qos Q0 e.message.qos) (map (λ (e : Entry). record { id = e.id; message = e.message; sent = true }) es) ≡ list_any (λ (e : Entry). same_qos Q0 e.message.qos) es
+pub none_sent : (es : List SenderEntry) → list_any (λ (e : SenderEntry). same_qos Q0 e.message.qos) (map (λ (e : SenderEntry). record { id = e.id; message = e.message; sent = true }) es) ≡ list_any (λ (e : SenderEntry). same_qos Q0 e.message.qos) es
 none_sent [] = refl
 none_sent (e ∷ es) = ap (λ b. same_qos Q0 e.message.qos || b) (none_sent es)
 
 pub keeps_sent : (s : Sending) → Keeps s → Keeps (record s { book = all_sent s.book })
 keeps_sent s k = keeps_same s (all_sent s.book) k (laws.sends s.capacity s.book k.sound) (none_sent s.book.entries ∙ k.acknowledged)
 
-none_out : (i : ℕ) (es : List Entry) (t : Bool) → list_any (λ (e : Entry). same_qos Q0 e.message.qos) es ≡ false → list_any (λ (e : Entry). same_qos Q0 e.message.qos) (cond t (without_entry i es) es) ≡ false
-none_out i es true n = none_filter (λ (e : Entry). same_qos Q0 e.message.qos) (λ (e : Entry). not (eqb e.id i)) es n
+none_out : (i : ℕ) (es : List SenderEntry) (t : Bool) → list_any (λ (e : SenderEntry). same_qos Q0 e.message.qos) es ≡ false → list_any (λ (e : SenderEntry). same_qos Q0 e.message.qos) (cond t (without_entry i es) es) ≡ false
+none_out i es true n = none_filter (λ (e : SenderEntry). same_qos Q0 e.message.qos) (λ (e : SenderEntry). not (eqb e.id i)) es n
 none_out i es false n = n
 
 pub keeps_puback : (s : Sending) (i : ℕ) → Keeps s → Keeps (record s { book = on_puback i s.book })

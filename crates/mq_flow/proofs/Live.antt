@@ -5,14 +5,15 @@ use Rattle.std.specs.FinSet.{contains, from_list, contains-from_list}
 use Rattle.std.specs.Cmp.{nat_cmp_total}
 use Rattle.mq_topic.specs.declared.qos.Qos.TheVariants.{Q0}
 use Rattle.mq_packet.specs.Identifier.{IsIdentifier}
-use Rattle.mq_flow.specs.declared.entry.Entry.{Entry}
+use Rattle.mq_flow.specs.declared.entry.SenderEntry.{SenderEntry}
 use Rattle.mq_flow.specs.Sender.{same_qos}
 use Rattle.mq_flow.specs.Receiver.{ReceiverBook, AreIdentifiers}
 use Rattle.mq_flow.specs.Sending.{Sending, Keeps}
-use Rattle.mq_flow.specs.Saved.{AreWithin, HaveTopics, IsKept, IsSenderWithin}
+use Rattle.mq_flow.specs.Saved.{AreWithin, IsKept}
+use Rattle.mq_flow.specs.Inside.Saved.{HaveTopics, IsSenderWithin}
 
 -- the messages of a sender meet `IsKept`
-pub all_kept : (limit : ℕ) (es : List Entry) → list_any (λ e. same_qos Q0 e.message.qos) es ≡ false → HaveTopics es → AreWithin limit es → AllByRecursion (IsKept limit) es
+pub all_kept : (limit : ℕ) (es : List SenderEntry) → list_any (λ e. same_qos Q0 e.message.qos) es ≡ false → HaveTopics es → AreWithin limit es → AllByRecursion (IsKept limit) es
 all_kept limit [] h topics within = tt
 all_kept limit (e ∷ es) h topics within =
     let parts = neither (same_qos Q0 e.message.qos) (list_any (λ e. same_qos Q0 e.message.qos) es) h in
@@ -22,7 +23,7 @@ all_kept limit (e ∷ es) h topics within =
     neither true b h = absurd cc
     neither false b h = (refl, h)
 
-    other : (e : Entry) → same_qos Q0 e.message.qos ≡ false → e.message.qos ≡ Q0 → ⊥
+    other : (e : SenderEntry) → same_qos Q0 e.message.qos ≡ false → e.message.qos ≡ Q0 → ⊥
     other e differs same = absurd (contra (sym (ap (same_qos Q0) same) ∙ differs))
       where
         contra : true ≡ false → ⊥

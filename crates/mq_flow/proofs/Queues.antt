@@ -4,16 +4,16 @@ use Rattle.std.specs.List.{list_any}
 use Rattle.std.proofs.lemmas.Bool.{ne_eqb, cases_eq, cond_both, lt-ltb, or_parts}
 use Rattle.std.proofs.lemmas.List.{length-map}
 use Rattle.mq_topic.specs.declared.qos.Qos.{Qos}
-use Rattle.mq_flow.specs.declared.entry.Entry.{Entry}
+use Rattle.mq_flow.specs.declared.entry.SenderEntry.{SenderEntry}
 use Rattle.mq_flow.specs.Sender.{times, same_qos, held}
 use Rattle.mq_flow.proofs.Counting.{eqb_self, times_same, times_other, filter_le}
 
 -- ---- the messages of a quality of service
 
-pub held_le : (q : Qos) (es : List Entry) → length (held q es) ≤ length es
+pub held_le : (q : Qos) (es : List SenderEntry) → length (held q es) ≤ length es
 held_le q es =
-    let h = filter_le (λ (e : Entry). same_qos q e.message.qos) es in
-    let k : length (held q es) ≡ length (filter (λ (e : Entry). same_qos q e.message.qos) es) = length-map (filter (λ (e : Entry). same_qos q e.message.qos) es) (λ (e : Entry). (e.id, e.message)) in
+    let h = filter_le (λ (e : SenderEntry). same_qos q e.message.qos) es in
+    let k : length (held q es) ≡ length (filter (λ (e : SenderEntry). same_qos q e.message.qos) es) = length-map (filter (λ (e : SenderEntry). same_qos q e.message.qos) es) (λ (e : SenderEntry). (e.id, e.message)) in
     omega arith
 
 -- ---- Removing an item with a number that at most one has

@@ -5,7 +5,7 @@ use Rattle.std.specs.Ordering.{nat_cmp}
 use Rattle.std.specs.FinSet.{contains, insert, contains-insert, contains-empty, same_set, nat_cmp-IsAntisymmetric}
 use Rattle.std.specs.Cmp.{nat_cmp_total}
 use Rattle.mq_packet.specs.Identifier.{IsIdentifier}
-use Rattle.mq_flow.specs.declared.entry.Entry.{Entry}
+use Rattle.mq_flow.specs.declared.entry.SenderEntry.{SenderEntry}
 use Rattle.mq_flow.specs.declared.claim.Claimed.{Claimed}
 use Rattle.mq_flow.specs.Sender.{SenderBook, blank_book, uses}
 use Rattle.mq_flow.specs.Sending.{Sending}
@@ -120,7 +120,7 @@ pub record SenderTaken (limit : ℕ) (bytes : List ℕ) (s : Sending) (rest : Li
   pub entries : AllByRecursion (IsKept limit) s.book.entries
 
 -- a book that has these, and no claims
-abbrev made_book : List Entry → List ℕ → SenderBook
+abbrev made_book : List SenderEntry → List ℕ → SenderBook
 made_book es ids = more_released (more_entries blank_book es) ids
 
 -- The result of reading the released identifiers.
@@ -147,7 +147,7 @@ released_part room b bytes x h e =
 
 -- The result of reading a book.
 record BookPart (limit : ℕ) (capacity : ℕ) (bytes : List ℕ) (b : SenderBook) (rest : List ℕ) : Type 0 where
-  pub entries : List Entry
+  pub entries : List SenderEntry
   pub ids : List ℕ
   pub book : b ≡ made_book entries ids
   pub takes : Takes bytes (number (length entries) ++ (flat_map saved_entry entries ++ saved_ids ids)) rest
@@ -215,14 +215,14 @@ sender_found limit bytes x h e =
         after_last capacity l.0.0 front l.0.1 first able most second.0 second.1 l.2
 
 -- a book without its released identifiers is sound too
-sound_entries : (c : ℕ) (es : List Entry) (ids : List ℕ) → IsSound c (made_book es ids) → IsSound c (more_entries blank_book es)
+sound_entries : (c : ℕ) (es : List SenderEntry) (ids : List ℕ) → IsSound c (made_book es ids) → IsSound c (more_entries blank_book es)
 sound_entries c es ids s =
     fewer c (made_book es ids) (more_entries blank_book es)
     (λ i. let t = times_more_released i (more_entries blank_book es) ids in omega arith)
     (let a = length_uses (made_book es ids) in let b = length_uses (more_entries blank_book es) in omega arith)
     s
 
-book_again : (limit : ℕ) → (c : ℕ) (es : List Entry) (ids rest : List ℕ) → IsSound c (made_book es ids) → AllByRecursion (IsKept limit) es
+book_again : (limit : ℕ) → (c : ℕ) (es : List SenderEntry) (ids rest : List ℕ) → IsSound c (made_book es ids) → AllByRecursion (IsKept limit) es
     → book_at limit c (number (length es) ++ (flat_map saved_entry es ++ (number (length ids) ++ (flat_map number ids ++ rest)))) ≡ Ok (made_book es ids, rest)
 book_again limit c es ids rest s each =
     let behind = number (length ids) ++ (flat_map number ids ++ rest) in
@@ -237,7 +237,7 @@ book_again limit c es ids rest s each =
       released_again (length ids) ids (more_entries blank_book es) c rest refl s,
     ) refl
 
-made_again : (limit : ℕ) → (capacity last : ℕ) (es : List Entry) (ids rest : List ℕ) → 0 < capacity → IsSound capacity (made_book es ids) → AllByRecursion (IsKept limit) es
+made_again : (limit : ℕ) → (capacity last : ℕ) (es : List SenderEntry) (ids rest : List ℕ) → 0 < capacity → IsSound capacity (made_book es ids) → AllByRecursion (IsKept limit) es
     → sender_at limit (saved_sender (record { book = made_book es ids; capacity = capacity; last = last; room = 0 }) ++ rest) ≡ Ok (record { book = made_book es ids; capacity = capacity; last = last; room = 0 }, rest)
 unfolding sender_at
 made_again limit capacity last es ids rest able s each =

@@ -11,7 +11,8 @@ use Rattle.std.proofs.lemmas.Grind.{flat_map-append}
 use Rattle.std.proofs.lemmas.List.{map-append, length-append, length-take-le, length-map, nil_from_length, take_more, take-append-drop}
 use Rattle.mq_flow.specs.declared.table.Held.{Held}
 use Rattle.mq_flow.specs.Sender.{times}
-use Rattle.mq_flow.specs.Held.{id_in, gone_out, pair_in, pairs_in, is_under, later, place_from, IsPlaced}
+use Rattle.mq_flow.specs.Held.{id_in, pair_in, pairs_in, is_under, later, place_from, IsPlaced}
+use Rattle.mq_flow.specs.Inside.Held.{gone_out}
 use Rattle.mq_flow.proofs.Counting.{times_append, times_same, times_other, eqb_self}
 use Rattle.mq_flow.proofs.Holding.{found_keys, lookup_here, lookup_there, id_gone}
 

@@ -3,20 +3,21 @@ use Rattle.std.proofs.Common.{◌≡◌, ℕ, ◌+◌, ◌*◌, ◌^◌, ◌<◌
 use Rattle.std.proofs.lemmas.List.Sums.{sum_by-cons, sum_by-append}
 use Rattle.std.specs.List.{AllByRecursion}
 use Rattle.std.specs.Map.{lookup, remove_entry}
-use Rattle.mq_flow.specs.declared.entry.Entry.{Entry}
+use Rattle.mq_flow.specs.declared.entry.SenderEntry.{SenderEntry}
 use Rattle.mq_flow.specs.declared.table.Held.{Held}
 use Rattle.mq_flow.specs.declared.table.Held.TheVariants.{Waiting, Released}
-use Rattle.mq_flow.specs.Held.{messages, message_in, gone_out, bytes_in, bytes_found, bytes_under}
+use Rattle.mq_flow.specs.Held.{messages, message_in}
+use Rattle.mq_flow.specs.Inside.Held.{gone_out, bytes_in, bytes_found, bytes_under}
 use Rattle.mq_flow.specs.Stored.{message_bytes, entry_bytes, AreCounted}
 use Rattle.mq_flow.proofs.Tables.{both_kinds}
 
-abbrev weight : Entry → ℕ
+abbrev weight : SenderEntry → ℕ
 weight e = message_bytes e.message
 
-pub bytes_cons : (e : Entry) (es : List Entry) → entry_bytes (e ∷ es) ≡ message_bytes e.message + entry_bytes es
+pub bytes_cons : (e : SenderEntry) (es : List SenderEntry) → entry_bytes (e ∷ es) ≡ message_bytes e.message + entry_bytes es
 bytes_cons e es = sum_by-cons weight e es
 
-bytes_append : (es fs : List Entry) → entry_bytes (es ++ fs) ≡ entry_bytes es + entry_bytes fs
+bytes_append : (es fs : List SenderEntry) → entry_bytes (es ++ fs) ≡ entry_bytes es + entry_bytes fs
 bytes_append es fs = sum_by-append weight es fs
 
 -- ---- one place
@@ -62,7 +63,7 @@ bytes_gone ((i, h) ∷ ps) =
 
 -- ---- each message is short
 
-abbrev Short : Entry → Type 0
+abbrev Short : SenderEntry → Type 0
 Short e = message_bytes e.message < 2 ^ 29
 
 abbrev AreShort : List (ℕ × Held) → Type 0
@@ -104,7 +105,7 @@ short_gone ((i, Released j) ∷ ps) all = short_gone ps all
 -- ---- the sum
 
 -- messages have less than this number of bytes in all
-short_sum : (es : List Entry) → AllByRecursion Short es → entry_bytes es ≤ length es * 2 ^ 29
+short_sum : (es : List SenderEntry) → AllByRecursion Short es → entry_bytes es ≤ length es * 2 ^ 29
 short_sum [] all = omega arith
 short_sum (e ∷ es) all = let one = all.0 in let rest = short_sum es all.1 in let sum = bytes_cons e es in omega arith
 

@@ -1,17 +1,16 @@
 -- The sender's table, which finds the entry of an identifier in constant time (2.3.1, 4.3.2,
 -- 4.3.3).
-use Rattle.std.specs.Prelude.{ℕ, ◌+◌, ◌≤◌, ◌≡◌, Bool, true, false, if◌then◌else◌, List, [], ◌∷◌, length, nat_eq, Option, Some, None}
+use Rattle.std.specs.Prelude.{ℕ, ◌+◌, ◌≤◌, ◌≡◌, Bool, false, if◌then◌else◌, List, [], ◌∷◌, length, nat_eq, Option, Some, None}
 use Rattle.std.specs.List.{flat_map, AllByRecursion}
-use Rattle.std.specs.Map.{keys_of, lookup}
+use Rattle.std.specs.Map.{keys_of}
 use Rattle.mq_flow.specs.Sender.{SenderBook, times}
-use Rattle.mq_flow.specs.Stored.{message_bytes}
 use Rattle.mq_flow.specs.declared.claim.Claimed.{Claimed}
-use Rattle.mq_flow.specs.declared.entry.Entry.{Entry}
+use Rattle.mq_flow.specs.declared.entry.SenderEntry.{SenderEntry}
 use Rattle.mq_flow.specs.declared.table.Held.{Held}
 use Rattle.mq_flow.specs.declared.table.Held.TheVariants.{Waiting, Released}
 
 -- The message, unless it is acknowledged.
-abbrev pub message_in : Held → List Entry
+abbrev pub message_in : Held → List SenderEntry
 message_in (Waiting entry) = entry ∷ []
 message_in (Released id) = []
 
@@ -21,7 +20,7 @@ release_in (Waiting entry) = []
 release_in (Released id) = id ∷ []
 
 -- the messages that are not acknowledged, in the table's order
-abbrev pub messages : List (ℕ × Held) → List Entry
+abbrev pub messages : List (ℕ × Held) → List SenderEntry
 messages = flat_map (λ pair. message_in pair.1)
 
 -- the released identifiers, in the table's order
@@ -40,25 +39,6 @@ id_in (Released id) = id
 -- Each entry is stored under its identifier.
 abbrev pub AreUnder : List (ℕ × Held) → Type 0
 AreUnder = AllByRecursion (λ pair. id_in pair.1 ≡ pair.0)
-
--- the same, and its PUBLISH was sent (3.3.1.1)
-abbrev pub gone_out : Held → Held
-gone_out (Waiting entry) = Waiting (record { id = entry.id; message = entry.message; sent = true })
-gone_out (Released id) = Released id
-
--- The topic and payload bytes of the message, unless it is acknowledged.
-abbrev pub bytes_in : Held → ℕ
-bytes_in (Waiting entry) = message_bytes entry.message
-bytes_in (Released id) = 0
-
--- the bytes of the entry that is found
-abbrev pub bytes_found : Option Held → ℕ
-bytes_found None = 0
-bytes_found (Some held) = bytes_in held
-
--- the bytes of the message of an identifier; 0 without a message
-abbrev pub bytes_under : ℕ → List (ℕ × Held) → ℕ
-bytes_under id pairs = bytes_found (lookup (nat_eq id) pairs)
 
 -- ---- places, some of which are empty
 

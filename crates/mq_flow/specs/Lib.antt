@@ -12,3 +12,4 @@ pub mod Sender
 pub mod Sending
 pub mod Stored
 pub mod Window
+pub mod Inside

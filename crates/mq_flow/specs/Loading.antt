@@ -1,7 +1,7 @@
 -- Reading the saved form of a session (3.1.2.4, 4.1). Each reads a field from the front of the
 -- bytes, and gives its value and the bytes after it; or else how many bytes there are from the bad
 -- field on, to the end.
-use Rattle.std.specs.Prelude.{◌≡◌, ℕ, zero, suc, ◌+◌, ◌-◌, ◌*◌, ◌<◌, slice_index, Bool, true, false, ◌&&◌, ◌||◌, if◌then◌else◌, List, [], ◌∷◌, ◌++◌, length, take, drop, ◌==◌, nat_le, nat_lt, nat_eq, Result, Ok, Err}
+use Rattle.std.specs.Prelude.{◌≡◌, ℕ, zero, suc, ◌+◌, ◌-◌, ◌*◌, Bool, true, false, ◌&&◌, ◌||◌, if◌then◌else◌, List, [], ◌∷◌, ◌++◌, length, take, drop, ◌==◌, nat_le, nat_lt, nat_eq, Result, Ok, Err}
 use Rattle.std.specs.List.{starts_with}
 use Rattle.std.specs.Option.{is_none}
 use Rattle.std.specs.Str.{is_utf8}
@@ -9,8 +9,7 @@ use Rattle.mq_topic.specs.declared.qos.Qos.{Qos}
 use Rattle.mq_topic.specs.declared.qos.Qos.TheVariants.{Q1, Q2}
 use Rattle.mq_topic.specs.Fault.{name_fault}
 use Rattle.mq_packet.specs.declared.message.Message.{Message}
-use Rattle.mq_flow.specs.declared.entry.Entry.{Entry}
-use Rattle.mq_flow.specs.declared.load.BadField.{BadField}
+use Rattle.mq_flow.specs.declared.entry.SenderEntry.{SenderEntry}
 use Rattle.mq_flow.specs.declared.load.Flags.{Flags}
 use Rattle.mq_flow.specs.declared.load.Unread.{Unread}
 use Rattle.mq_flow.specs.declared.load.Unread.TheVariants as unread
@@ -91,7 +90,7 @@ message_at limit flags bytes = topic_at bytes >>= λ topic. payload_at limit (le
     Ok (record { topic = topic.0; payload = payload.0; qos = flags.qos; retain = flags.retain }, payload.1)
 
 -- a message that is not acknowledged, with an identifier that is free before it
-unfoldable pub entry_at : (limit : ℕ) → SenderBook → List ℕ → Result (Entry × List ℕ) ℕ
+unfoldable pub entry_at : (limit : ℕ) → SenderBook → List ℕ → Result (SenderEntry × List ℕ) ℕ
 entry_at limit book bytes = free_at book bytes >>= λ id. flags_at id.1 >>= λ flags. message_at limit flags.0 flags.1 >>= λ message.
     Ok (record { id = id.0; message = message.0; sent = flags.0.sent }, message.1)
 
@@ -167,11 +166,6 @@ unfoldable pub read_session : List ℕ → Result Session LoadError
 read_session bytes = if has_version bytes then placed (length bytes) (session_at 268435455 (drop 4 bytes)) else Err errors.Version
 
 -- ---- The results of functions
-
--- seen by view
-abbrev pub Same : {X Y : Type 0} → (X → Y) → Result X BadField → Result Y ℕ → Type 0
-Same view (Ok x) read = read ≡ Ok (view x)
-Same view (Err bad) read = read ≡ Err bad.left
 
 -- the same, unless memory ran out
 abbrev pub Fails : {Y : Type 0} → Unread → Result Y ℕ → Type 0

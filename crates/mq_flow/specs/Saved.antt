@@ -12,7 +12,7 @@ use Rattle.mq_topic.specs.Topic.{IsTopicName}
 use Rattle.mq_packet.specs.Identifier.{IsIdentifier}
 use Rattle.mq_packet.specs.declared.message.Message.{Message}
 use Rattle.mq_packet.specs.Encoding.{bit}
-use Rattle.mq_flow.specs.declared.entry.Entry.{Entry}
+use Rattle.mq_flow.specs.declared.entry.SenderEntry.{SenderEntry}
 use Rattle.mq_flow.specs.declared.session.Session.{Session}
 use Rattle.mq_flow.specs.Sender.{no_claims}
 use Rattle.mq_flow.specs.Sending.{Sending}
@@ -32,11 +32,11 @@ abbrev pub saved_payload : List ℕ → List ℕ
 saved_payload payload = count (length payload) ++ payload
 
 -- quality of service, whether it was sent, RETAIN
-abbrev pub saved_flags : Entry → List ℕ
+abbrev pub saved_flags : SenderEntry → List ℕ
 saved_flags entry = qos_number entry.message.qos ∷ bit entry.sent ∷ bit entry.message.retain ∷ []
 
 -- a message that is not acknowledged, with its identifier (4.3.2, 4.3.3)
-abbrev pub saved_entry : Entry → List ℕ
+abbrev pub saved_entry : SenderEntry → List ℕ
 saved_entry entry = number entry.id ++ (saved_flags entry ++ (counted entry.message.topic ++ saved_payload entry.message.payload))
 
 -- The number of identifiers, followed by the identifiers.
@@ -73,7 +73,7 @@ abbrev pub IsWithinLimit : ℕ → Message → Type 0
 IsWithinLimit limit message = 2 + length message.topic + 2 + length message.payload ≤ limit
 
 -- A stored message has QoS 1 or 2 (4.3.1), a topic name (4.7), and fits the limit.
-pub record IsKept (limit : ℕ) (entry : Entry) : Type 0 where
+pub record IsKept (limit : ℕ) (entry : SenderEntry) : Type 0 where
   pub acknowledged : entry.message.qos ≡ Q0 → ⊥
   pub topic : IsTopicName entry.message.topic
   pub within : IsWithinLimit limit entry.message
@@ -89,20 +89,8 @@ pub record IsSessionWithin (limit : ℕ) (session : Session) : Type 0 where
   pub received : (id : ℕ) → set.contains session.receiver id ≡ true → IsIdentifier id
 
 -- the PUBLISH of each message is within a limit (2.2.3, 3.3)
-abbrev pub AreWithin : ℕ → List Entry → Type 0
+abbrev pub AreWithin : ℕ → List SenderEntry → Type 0
 AreWithin limit entries = AllByRecursion (λ entry. IsWithinLimit limit entry.message) entries
-
--- each message has a topic name (4.7)
-abbrev pub HaveTopics : List Entry → Type 0
-HaveTopics entries = AllByRecursion (λ entry. IsTopicName entry.message.topic) entries
-
--- The sender's part of this invariant.
-pub record IsSenderWithin (limit : ℕ) (sender : Sending) : Type 0 where
-  pub sound : IsSound sender.capacity sender.book
-  pub able : 0 < sender.capacity
-  pub most : sender.capacity ≤ 65535
-  pub last : sender.last ≤ 65535
-  pub entries : AllByRecursion (IsKept limit) sender.book.entries
 
 -- and the limit is the standard's (2.2.3)
 abbrev pub IsSession : Session → Type 0

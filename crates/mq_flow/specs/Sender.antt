@@ -8,7 +8,7 @@ use Rattle.mq_packet.specs.Identifier.{IsIdentifier}
 use Rattle.mq_packet.specs.declared.message.Message.{Message}
 use Rattle.mq_packet.specs.declared.packet.Packet.{Packet}
 use Rattle.mq_packet.specs.declared.packet.Packet.TheVariants as packets
-use Rattle.mq_flow.specs.declared.entry.Entry.{Entry}
+use Rattle.mq_flow.specs.declared.entry.SenderEntry.{SenderEntry}
 use Rattle.mq_flow.specs.declared.claim.Claim.{Claim}
 use Rattle.mq_flow.specs.declared.claim.Claim.TheVariants.{Subscribe, Unsubscribe}
 use Rattle.mq_flow.specs.declared.claim.Claimed.{Claimed}
@@ -19,7 +19,7 @@ use Rattle.mq_flow.specs.declared.reaction.Reaction.TheVariants.{Freed, Release,
 -- acceptance; the identifiers of those that a PUBREC acknowledged, in the order of the PUBRECs,
 -- until their PUBCOMP (4.3.3); and the identifiers in use by SUBSCRIBE and UNSUBSCRIBE (2.3.1).
 pub record SenderBook : Type 0 where
-  pub entries : List Entry
+  pub entries : List SenderEntry
   pub released : List ℕ
   pub claimed : List Claimed
 
@@ -63,12 +63,12 @@ same_qos qos other = qos_number qos == qos_number other
 
 -- a message of this quality of service was sent with this identifier, and waits for its
 -- acknowledgement (4.3.2, 4.3.3)
-abbrev pub is_awaited : Qos → ℕ → List Entry → Bool
+abbrev pub is_awaited : Qos → ℕ → List SenderEntry → Bool
 is_awaited qos id entries = list_any (λ entry. same_qos qos entry.message.qos && (entry.id == id && entry.sent)) entries
 
 -- the messages of a quality of service that are held, with their identifiers, in order of
 -- acceptance (4.3.2, 4.3.3)
-abbrev pub held : Qos → List Entry → List (ℕ × Message)
+abbrev pub held : Qos → List SenderEntry → List (ℕ × Message)
 held qos entries = map (λ entry. (entry.id, entry.message)) (filter (λ entry. same_qos qos entry.message.qos) entries)
 
 -- the identifiers but this one
@@ -76,7 +76,7 @@ abbrev pub without : ℕ → List ℕ → List ℕ
 without id ids = filter (λ other. not (other == id)) ids
 
 -- the entries but those of this identifier
-abbrev pub without_entry : ℕ → List Entry → List Entry
+abbrev pub without_entry : ℕ → List SenderEntry → List SenderEntry
 without_entry id entries = filter (λ entry. not (entry.id == id)) entries
 
 -- the claimed identifiers but this one

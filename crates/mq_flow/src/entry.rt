@@ -4,7 +4,7 @@ use mq_packet::{Message, PacketId};
 
 /// A message that was accepted for sending and isn't acknowledged (4.3.2, 4.3.3).
 #[derive(Debug, Drop)]
-pub struct Entry {
+pub struct SenderEntry {
     /// The packet identifier that it has until it is acknowledged.
     pub id: PacketId,
     /// The message, of quality of service 1 or 2.

@@ -3,7 +3,7 @@
 ghost use Rattle.std.specs.Prelude.{◌≡◌, [], ◌∷◌, length, MatchOption};
 ghost use Rattle.mq_flow.specs.Prelude.{at_most, TakesFirst, deref, messages, releases, pairs_in};
 
-use crate::entry::Entry;
+use crate::entry::SenderEntry;
 use crate::table::Held;
 use mq_packet::PacketId;
 use std::marker::Model;
@@ -17,22 +17,22 @@ pub struct Entries<'a> {
 
 impl<'a> Model for Entries<'a> {
     ghost use Rattle.std.specs.Prelude.{List};
-    ghost use Rattle.mq_flow.specs.declared.entry.Entry.{Entry};
+    ghost use Rattle.mq_flow.specs.declared.entry.SenderEntry.{SenderEntry};
     ghost use Rattle.mq_flow.specs.Held.{messages, pairs_in};
 
-    ghost Value = { List Entry };
+    ghost Value = { List SenderEntry };
 
     ghost view = { λ s. messages (pairs_in s.slots.now) };
 }
 
 impl<'a> Iterator for Entries<'a> {
-    type Item = &'a Entry;
+    type Item = &'a SenderEntry;
 
     ghost next_gives = { TakesFirst deref };
 
     ghost remaining = { λ s. at_most (length s) };
 
-    fn next(&mut self) -> Option<&'a Entry> {
+    fn next(&mut self) -> Option<&'a SenderEntry> {
         let (entry, rest) = first_waiting(self.slots)?;
         self.slots = rest;
         Some(entry)
@@ -69,7 +69,7 @@ impl<'a> Iterator for Releases<'a> {
 }
 
 /// Returns the first message that is not acknowledged, and the places after it.
-fn first_waiting(slots: &[Option<Held>]) -> Option<(&Entry, &[Option<Held>])>
+fn first_waiting(slots: &[Option<Held>]) -> Option<(&SenderEntry, &[Option<Held>])>
     ensures { MatchOption result (messages (pairs_in slots.now) ≡ []) (λ r. messages (pairs_in slots.now) ≡ r.0.now ∷ messages (pairs_in r.1.now)) }
 {
     let mut rest = slots;

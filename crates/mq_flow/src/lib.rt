@@ -26,7 +26,7 @@ mod stored;
 mod table;
 
 pub use crate::claim::{Claim, Claimed};
-pub use crate::entry::Entry;
+pub use crate::entry::SenderEntry;
 pub use crate::iter::{Entries, Releases};
 pub use crate::laws::{
     identifier_laws, next_laws, receiver_laws, saved_laws, saved_two_laws, sending_laws, stray_laws,

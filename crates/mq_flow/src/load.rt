@@ -4,7 +4,7 @@
 ghost use Rattle.std.specs.Prelude.{◌≡◌, ℕ, if◌then◌else◌, ◌↔◌, ◌+◌, ◌≤◌, ◌<◌, ◌^◌, length, true, false, Err, IfOk, OnOk, OnErr, IsErrOf, MatchResult};
 ghost use Rattle.mq_flow.specs.Prelude.{Q0, IsFree, is_full, uses, blank_book, none_received, load_code, Saved, IsSession, Same, Gives, Loads, number_at, count_at, capacity_at, number_within, free_at, qos_at, flag_at, flags_at, topic_at, is_over_limit, payload_at, message_at, entry_at, with_entry_at, entries_at, with_released, with_released_at, released_at, sender_at, next_at, received_at, receiver_at, end_at, session_at, read_session, has_version};
 
-use crate::entry::Entry;
+use crate::entry::SenderEntry;
 use crate::receiver::Receiver;
 use crate::save::SIGNATURE;
 use crate::sender::Sender;
@@ -193,7 +193,11 @@ fn with_entry<'a>(alloc: Global, sender: &mut Sender, bytes: &'a [u8]) -> Result
 
 // Reads an entry, whose identifier has to be free.
 #[tactic(auto, unfolding(crate::specs::Loading::entry_at))]
-fn entry<'a>(alloc: Global, sender: &Sender, bytes: &'a [u8]) -> Result<(Entry, &'a [u8]), Unread>
+fn entry<'a>(
+    alloc: Global,
+    sender: &Sender,
+    bytes: &'a [u8],
+) -> Result<(SenderEntry, &'a [u8]), Unread>
     ensures read { Gives (λ x. (x.0, x.1.now)) result (entry_at 268435455 sender.now.book bytes.now) }
     ensures free { IfOk result (λ x. IsFree sender.now.book x.0.id) }
     ensures kept { IfOk result (λ x. x.0.message.qos ≡ Q0 → ⊥) }
@@ -204,7 +208,7 @@ fn entry<'a>(alloc: Global, sender: &Sender, bytes: &'a [u8]) -> Result<(Entry, 
     };
     let (flags, rest) = entry_flags(rest)?;
     let (message, rest) = message(alloc, flags, rest)?;
-    let entry = Entry {
+    let entry = SenderEntry {
         id,
         message,
         sent: flags.sent,

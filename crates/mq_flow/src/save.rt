@@ -4,7 +4,7 @@ ghost use Rattle.std.specs.Prelude.{◌≡◌, ◌++◌, ◌<◌, ◌^◌, ℕ, 
 ghost use Rattle.mq_flow.specs.Prelude.{flat_map, nat_cmp, IsOrdered, IsTopicName, IsIdentifier, messages, releases, AreIdentifiers, number, counted, count, saved_payload, saved_flags, saved_entry, saved_ids, saved_sender, saved_receiver, saved_form, signature, without_claims, AreWithin, HaveTopics, IsSenderWithin, IsSession};
 ghost use Rattle.std.specs.FinSet as set;
 
-use crate::entry::Entry;
+use crate::entry::SenderEntry;
 use crate::receiver::Receiver;
 use crate::sender::Sender;
 use crate::session::Session;
@@ -125,7 +125,7 @@ fn put_released(out: &mut Vec<u8>, table: &Table) -> Result<(), AllocError>
 }
 
 // Appends an entry.
-fn put_entry(out: &mut Vec<u8>, entry: &Entry) -> Result<(), AllocError>
+fn put_entry(out: &mut Vec<u8>, entry: &SenderEntry) -> Result<(), AllocError>
     ensures ok { OnOk result (out.new.items ≡ out.old.items ++ saved_entry entry.now) }
     ensures topic { OnOk result (IsTopicName entry.now.message.topic) }
     ensures err { OnErr result (take (length out.old.items) out.new.items ≡ out.old.items) }
@@ -135,7 +135,7 @@ fn put_entry(out: &mut Vec<u8>, entry: &Entry) -> Result<(), AllocError>
 }
 
 // Appends the fields of an entry before its message.
-fn put_head(out: &mut Vec<u8>, entry: &Entry) -> Result<(), AllocError>
+fn put_head(out: &mut Vec<u8>, entry: &SenderEntry) -> Result<(), AllocError>
     ensures ok { OnOk result (out.new.items ≡ out.old.items ++ (number entry.now.id ++ saved_flags entry.now)) }
     ensures err { OnErr result (take (length out.old.items) out.new.items ≡ out.old.items) }
 {

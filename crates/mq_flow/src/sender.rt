@@ -4,7 +4,7 @@ ghost use Rattle.std.specs.Prelude.{ℕ, ◌≡◌, ◌↔◌, ◌<◌, ◌≤�
 ghost use Rattle.mq_flow.specs.Sender.{same_qos, accept as accepted};
 
 use crate::claim::{Claim, Claimed};
-use crate::entry::Entry;
+use crate::entry::SenderEntry;
 use crate::iter::{Entries, Releases};
 use crate::queue::{claim_at, count_of, has_subscribe, has_unsubscribe};
 use crate::reaction::Refusal;
@@ -48,7 +48,7 @@ impl Model for Sender {
 }
 
 impl Sender {
-    ghost use Rattle.mq_flow.specs.Prelude.{list_any, ShowsInOrder, GivesInOrder, deref, Entry, Q0, Q1, Q2, IsSound, next_identifier, blank_book, uses, times, IsFree, IsFirstFree, is_full, is_awaited, held, claim, release, no_claims, awaits_suback, awaits_unsuback, stored_bytes};
+    ghost use Rattle.mq_flow.specs.Prelude.{list_any, ShowsInOrder, GivesInOrder, deref, SenderEntry, Q0, Q1, Q2, IsSound, next_identifier, blank_book, uses, times, IsFree, IsFirstFree, is_full, is_awaited, held, claim, release, no_claims, awaits_suback, awaits_unsuback, stored_bytes};
 
     /// Makes a sender that has no message and gave no identifier, and in which at most `capacity`
     /// identifiers may be in use (2.3.1).
@@ -81,7 +81,7 @@ impl Sender {
     /// Returns the messages that are not acknowledged, in order of acceptance (4.3.2, 4.3.3).
     pub fn entries(&self) -> Entries<'_>
         ensures rest { result ≡ self.now.book.entries }
-        ensures runs { ShowsInOrder (deref {X = Entry}) }
+        ensures runs { ShowsInOrder (deref {X = SenderEntry}) }
         ensures kept { list_any (λ e. same_qos Q0 e.message.qos) self.now.book.entries ≡ false }
     {
         self.table.entries()
@@ -161,7 +161,7 @@ impl Sender {
         ensures reserved { 0 < self.old.room → IsOk result }
         ensures err { OnErr result (self.new ≡ self.old) }
     {
-        let entry = Entry { id, message, sent };
+        let entry = SenderEntry { id, message, sent };
         self.table.add(Held::Waiting(entry))?;
         self.last = id.get();
         self.room = self.room.saturating_sub(1);
@@ -344,7 +344,7 @@ impl Sender {
 }
 
 /// Returns whether a message is of this quality of service and was sent.
-fn is_sent(entry: &Entry, qos: Qos) -> bool
+fn is_sent(entry: &SenderEntry, qos: Qos) -> bool
     ensures { result ≡ (same_qos qos entry.now.message.qos && entry.now.sent) }
 {
     entry.message.qos == qos && entry.sent

@@ -4,10 +4,11 @@ ghost use Rattle.std.specs.Prelude.{ℕ, ◌≡◌, ◌+◌, ◌^◌, ◌<◌, �
 ghost use Rattle.std.specs.Option.{option_copied, option_map};
 ghost use Rattle.std.specs.HashMap.{get, hash_map_len, spare};
 ghost use Rattle.std.specs.Map.{keys_of, lookup, remove_entry};
-ghost use Rattle.mq_flow.specs.Held.{bytes_found, bytes_in, messages, gone_out, id_in, pairs_in, IsPlaced};
+ghost use Rattle.mq_flow.specs.Held.{messages, id_in, pairs_in, IsPlaced};
+ghost use Rattle.mq_flow.specs.Inside.Held.{bytes_found, bytes_in, gone_out};
 ghost use Rattle.mq_flow.specs.Sender.{times};
 
-use crate::entry::Entry;
+use crate::entry::SenderEntry;
 use crate::iter::{Entries, Releases};
 use crate::stored::message_bytes;
 use mq_packet::PacketId;
@@ -19,7 +20,7 @@ use std::marker::Model;
 #[derive(Debug, Drop)]
 pub(crate) enum Held {
     /// The message, which is not acknowledged (4.3.2, 4.3.3).
-    Waiting(Entry),
+    Waiting(SenderEntry),
     /// A released identifier: its message is acknowledged and its PUBCOMP is pending (4.3.3).
     Released(PacketId),
 }
@@ -62,7 +63,7 @@ impl Model for Table {
 }
 
 impl Table {
-    ghost use Rattle.mq_flow.specs.Prelude.{ShowsInOrder, GivesInOrder, deref, Entry, bytes_under, releases, entry_bytes, Held};
+    ghost use Rattle.mq_flow.specs.Prelude.{ShowsInOrder, GivesInOrder, deref, SenderEntry, bytes_under, releases, entry_bytes, Held};
 
     /// An empty table.
     pub(crate) fn new(alloc: Global) -> Table
@@ -140,7 +141,7 @@ impl Table {
     /// Returns the messages that are not acknowledged, in their order.
     pub(crate) fn entries(&self) -> Entries<'_>
         ensures rest { result ≡ messages self.now.pairs }
-        ensures runs { ShowsInOrder (deref {X = Entry}) }
+        ensures runs { ShowsInOrder (deref {X = SenderEntry}) }
     {
         Entries {
             slots: self.slots.as_slice(),

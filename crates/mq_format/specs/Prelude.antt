@@ -1,4 +1,4 @@
--- What the source files of this crate cite. It declares nothing itself.
+-- The names that the source files of this crate cite. It declares none of its own.
 pub use Rattle.std.specs.List.{flat_map}
 pub use Rattle.mq_format.specs.Format.{digits_text, field_text, filler, first_entry, front, head_text, id_entry, id_number, json_text, last_entry, middle_text, number_entry, payload_text, stamp_text, text_entry, line_end, line_text, payload_line, piece_text, verbose_line}
 pub use Rattle.mq_format.specs.Json.{escaped_byte, quoted}

@@ -12,7 +12,7 @@ use Rattle.mq_flow.specs.Sender.{SenderBook, blank_book, no_claims}
 use Rattle.mq_end.specs.declared.happening.Happening.{Happening}
 use Rattle.mq_end.specs.declared.happening.Happening.TheVariants as happens
 use Rattle.mq_end.specs.declared.state.State.TheVariants.{Disconnected, Connected}
-use Rattle.mq_end.specs.End.{End, Reply, comes_up, renewed}
+use Rattle.mq_end.specs.End.{End, Reply, becomes_connected, renewed}
 use Rattle.mq_end.specs.Server.{opens, refuses}
 use Rattle.mq_end.specs.State.{EndState, Room}
 use Rattle.mq_route.specs.declared.act.Act.{Act}
@@ -57,7 +57,7 @@ is_present c e = not c.clean_session && (opens e).end.known
 
 abbrev pub accepting : Connect → End → Reply
 accepting c e =
-    comes_up (packets.ConnAck (connacks.Accepted (is_present c e)) ∷ []) (is_present c e) (record (renewed c.clean_session (opens e).end) { keep_alive = c.keep_alive })
+    becomes_connected (packets.ConnAck (connacks.Accepted (is_present c e)) ∷ []) (is_present c e) (record (renewed c.clean_session (opens e).end) { keep_alive = c.keep_alive })
 
 pub greeting_is : (c : Connect) (e : End) → is_anonymous c ≡ false → greeting c e ≡ accepting c e
 greeting_is c e named = cond-false (is_anonymous c) (refuses IdentifierRejected (opens e).end) (accepting c e) named

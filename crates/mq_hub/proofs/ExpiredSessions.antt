@@ -7,7 +7,7 @@ use Rattle.mq_route.specs.declared.conn.Conn.{Conn}
 use Rattle.mq_route.specs.declared.event.HubEvent.TheVariants.{Tick}
 use Rattle.mq_route.specs.declared.reply.HubReply.{HubReply}
 use Rattle.mq_route.specs.Hub.{HubState, HubConnection, HubSession, up_on}
-use Rattle.mq_route.specs.Step.{HubStep, Ticks, expire, expired_keys, has_passed, is_expired, remove_all, told}
+use Rattle.mq_route.specs.Step.{HubStep, OnTick, expire, expired_keys, has_passed, is_expired, remove_all, with_clock}
 use Rattle.mq_route.specs.Work.{Work, begin, remove}
 use Rattle.mq_tables.specs.declared.sessions.session.BrokerSession.{BrokerSession}
 use Rattle.mq_tables.specs.Expiry.{gone_keys, is_gone}
@@ -120,24 +120,24 @@ remove_whole keys i old new said says past goes = subst (λ (l : List ℕ). Refi
 
 -- ---- a tick
 
-pub tick_step : (now : ℕ) (h mid new : HubState) (keys : List ℕ) (said mids says : List Act) (r : HubReply) → keys ≡ expired_keys (told now h) → said ≡ []
-    → Refines (remove_all keys) (told now h) said mid mids → TicksTo (max h.clock now) mid mids new says
+pub tick_step : (now : ℕ) (h mid new : HubState) (keys : List ℕ) (said mids says : List Act) (r : HubReply) → keys ≡ expired_keys (with_clock now h) → said ≡ []
+    → Refines (remove_all keys) (with_clock now h) said mid mids → TicksTo (max h.clock now) mid mids new says
     → r ≡ record { acts = says; output = []; alive = true } → HubStep h (Tick now) r new
 unfolding expire
 tick_step now h mid new keys said mids says r is none goes ticks reply =
-    let start = expire (told now h) in
-    let same : start ≡ remove_all keys (begin (told now h)) = ap (λ (l : List ℕ). remove_all l (begin (told now h))) (sym is) in
-    let hub : start.hub ≡ mid = ap (λ (w : Work). w.hub) same ∙ goes.hub (begin (told now h)) refl (sym none) in
-    let did : start.did ≡ mids = ap (λ (w : Work). w.did) same ∙ goes.did (begin (told now h)) refl (sym none) in
+    let start = expire (with_clock now h) in
+    let same : start ≡ remove_all keys (begin (with_clock now h)) = ap (λ (l : List ℕ). remove_all l (begin (with_clock now h))) (sym is) in
+    let hub : start.hub ≡ mid = ap (λ (w : Work). w.hub) same ∙ goes.hub (begin (with_clock now h)) refl (sym none) in
+    let did : start.did ≡ mids = ap (λ (w : Work). w.did) same ∙ goes.did (begin (with_clock now h)) refl (sym none) in
     let t = ticks start hub did in
-    let on : mid.connections ≡ h.connections = connections_left keys (told now h) mid said mids goes in
-    let config : mid.config ≡ h.config = config_left keys (told now h) mid said mids goes in
+    let on : mid.connections ≡ h.connections = connections_left keys (with_clock now h) mid said mids goes in
+    let config : mid.config ≡ h.config = config_left keys (with_clock now h) mid said mids goes in
     record {
       right = refl;
       work = t.work;
       does = (
-        subst (λ (xs : List HubConnection). Ticks h.config.connect_within (max h.clock now) xs start t.work) (ap (λ (a : HubState). a.connections) hub ∙ on)
-            (subst (λ (c : HubConfig). Ticks c.connect_within (max h.clock now) start.hub.connections start t.work) config t.ticks),
+        subst (λ (xs : List HubConnection). OnTick h.config.connect_within (max h.clock now) xs start t.work) (ap (λ (a : HubState). a.connections) hub ∙ on)
+            (subst (λ (c : HubConfig). OnTick c.connect_within (max h.clock now) start.hub.connections start t.work) config t.ticks),
         reply ∙ ap (λ (acts : List Act). record { acts = acts; output = []; alive = true }) t.did,
       );
       after = t.hub;

@@ -16,7 +16,7 @@ use Rattle.mq_route.specs.declared.connection_state.ConnectionState.{ConnectionS
 use Rattle.mq_route.specs.declared.connection_state.ConnectionState.TheVariants.{AwaitingConnect}
 use Rattle.mq_route.specs.Hub.{HubState, HubConnection, changed, end_on, is_connection, no_end, stage_of, with_connection}
 use Rattle.mq_route.specs.Work.{Work, close, put_on}
-use Rattle.mq_route.specs.Arrives.{arrives, on_first_packet, on_malformed, broken, closes_by, dispatch_packet, touched, touched_on, takes}
+use Rattle.mq_route.specs.Arrives.{arrives, on_first_packet, on_malformed, broken, closes_by, dispatch_packet, touched, touched_on, on_packet}
 use Rattle.mq_tables.proofs.ConnectionTable.{unknown}
 use Rattle.mq_hub.specs.Inside.Refinement.{Refines}
 use Rattle.mq_hub.specs.Inside.Invariant.{AreApart}
@@ -99,8 +99,8 @@ heard_same now k (x ∷ xs) apart at = go (is_connection k x) refl (heard_same n
 
 -- a first packet is processed
 pub goes_first : (k : Conn) (p : Packet) (fits : Bool) (h g : HubState) (did says : List Act) → AreApart h.connections → stage_of k h.connections ≡ AwaitingConnect → Refines (on_first_packet k p fits) h did g says
-    → Refines (takes k p (record { fits = true; will_fits = fits })) h did g says
-unfolding takes arrives dispatch_packet
+    → Refines (on_packet k p (record { fits = true; will_fits = fits })) h did g says
+unfolding on_packet arrives dispatch_packet
 goes_first k p fits h g did says apart at q = record {
   hub = λ w e d. ap (λ (v : Work). v.hub) (to w e) ∙ q.hub (touched_on k w) (still w e) d;
   did = λ w e d. ap (λ (v : Work). v.did) (to w e) ∙ q.did (touched_on k w) (still w e) d;

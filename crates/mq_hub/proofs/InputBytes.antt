@@ -13,7 +13,7 @@ use Rattle.mq_route.specs.declared.conn.Conn.{Conn}
 use Rattle.mq_route.specs.declared.event.HubEvent.TheVariants.{Bytes}
 use Rattle.mq_route.specs.declared.refusal.HubRefusal.TheVariants as refusals
 use Rattle.mq_route.specs.declared.reply.HubReply.{HubReply}
-use Rattle.mq_route.specs.Arrives.{on_malformed, takes}
+use Rattle.mq_route.specs.Arrives.{on_malformed, on_packet}
 use Rattle.mq_route.specs.Hub.{HubState, HubConnection, held_on, is_open, knows, stage_of}
 use Rattle.mq_route.specs.Step.{Arrives, Waits, Breaks, Starves, LetsGo, HubStep, holding}
 use Rattle.mq_route.specs.StepSome.{HubStepSome}
@@ -31,7 +31,7 @@ module _ (limits : Bounds) (k : Conn) (most : ℕ) where
       → HandlesPacket limits k held rest used old said new says → (more ≡ []) ⊎ (length says < most) → RefinesBytes limits k most more new says end ends
       → RefinesBytes limits k most (held ++ (take used rest ++ more)) old said end ends
   arrives_by held rest more used old new end said says ends is_on t gap later = λ w e f.
-      let v : Work = takes k t.packet t.growth w in
+      let v : Work = on_packet k t.packet t.growth w in
       let c = later v (t.goes.hub w e f) (t.goes.did w e f) in
       let all = held ++ take used rest in
       subst (λ (b : List ℕ). HandlesBytes limits k most b w end ends) (append_assoc held (take used rest) more) (record {

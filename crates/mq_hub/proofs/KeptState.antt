@@ -21,12 +21,12 @@ use Rattle.mq_route.specs.declared.close.HubClose.TheVariants.{Own, TargetFull, 
 use Rattle.mq_route.specs.declared.conn.Conn.{Conn}
 use Rattle.mq_route.specs.declared.connection_state.ConnectionState.{ConnectionState}
 use Rattle.mq_route.specs.declared.connection_state.ConnectionState.TheVariants.{AwaitingConnect, ConnectedAs, Closed}
-use Rattle.mq_route.specs.Arrives.{Growth, accept_connect, answers, answers_all, arrives, on_first_packet, is_too_broad, on_passed_packet, dispatch_packet, due, granted, resume_session, greeting, start_session, goes_on, touched_on, new_session, replies, take_over, takes, terms_of, on_connect}
+use Rattle.mq_route.specs.Arrives.{Growth, accept_connect, answers, answers_all, arrives, on_first_packet, is_too_broad, on_passed_packet, dispatch_packet, due, granted, resume_session, greeting, start_session, goes_on, touched_on, new_session, replies, take_over, on_packet, terms_of, on_connect}
 use Rattle.mq_route.specs.Copies.{will_message}
 use Rattle.mq_route.specs.Hub.{HubState, HubConnection, changed, copies_of, end_of, is_connection, stage_of, up_on, with_end, with_connection}
 use Rattle.mq_route.specs.Routed.{same_conn}
 use Rattle.mq_route.specs.Welcome.{ends_with, refusal}
-use Rattle.mq_route.specs.Work.{Work, close, does, have_room, is_missed, last_will, leaves_behind, place, place_all, publishes_next, put_on, put_where, remove, remove_if, retained_copies, said, deliver, shut, shut_down, staged, subscribed, unsubscribed, will_after, with_sessions}
+use Rattle.mq_route.specs.Work.{Work, close, does, have_room, is_missed, last_will, leaves_behind, enqueue, enqueue_all, publishes_next, put_on, put_where, remove, remove_if, retained_copies, said, deliver, shut, shut_down, staged, subscribed, unsubscribed, will_after, with_sessions}
 use Rattle.mq_hub.specs.Inside.Refinement.{Refines}
 
 -- ---- the states of connections
@@ -76,17 +76,17 @@ firm_does key move w =
     let p = firm_put_where (up_on key w.hub.connections) (move (end_of key w.hub.sessions)).out v in
     record { config = p.config; stage = p.stage }
 
-firm_place : (key : ℕ) (m : Message) (w : Work) → IsFirm w (place key m w)
-unfolding place
+firm_place : (key : ℕ) (m : Message) (w : Work) → IsFirm w (enqueue key m w)
+unfolding enqueue
 firm_place key m w =
     let p = firm_does key (publishes_next m) w in
     cond_both (is_missed key m w.hub) (said (acts.Missed key m) w) (said (acts.Placed key m) (does key (publishes_next m) w)) (λ (v : Work). IsFirm w v)
     (λ e. record { config = refl; stage = λ k. refl })
     (λ e. record { config = p.config; stage = p.stage })
 
-firm_place_all : (copies : List (ℕ × Message)) (w : Work) → IsFirm w (place_all copies w)
+firm_place_all : (copies : List (ℕ × Message)) (w : Work) → IsFirm w (enqueue_all copies w)
 firm_place_all [] w = firm_same w
-firm_place_all (c ∷ cs) w = firm_then w (place c.0 c.1 w) (place_all cs (place c.0 c.1 w)) (firm_place c.0 c.1 w) (firm_place_all cs (place c.0 c.1 w))
+firm_place_all (c ∷ cs) w = firm_then w (enqueue c.0 c.1 w) (enqueue_all cs (enqueue c.0 c.1 w)) (firm_place c.0 c.1 w) (firm_place_all cs (enqueue c.0 c.1 w))
 
 firm_share : (act : Act) (m : Message) (w : Work) → IsFirm w (deliver act m w)
 unfolding deliver
@@ -254,8 +254,8 @@ config_arrives k p g w =
     (λ e. config_comes_in k p g.will_fits (stage_of k w.hub.connections) (touched_on k w))
     (λ e. config_close k _ g.will_fits w)
 
-config_takes : (k : Conn) (p : Packet) (g : Growth) (w : Work) → (takes k p g w).hub.config ≡ w.hub.config
-unfolding takes
+config_takes : (k : Conn) (p : Packet) (g : Growth) (w : Work) → (on_packet k p g w).hub.config ≡ w.hub.config
+unfolding on_packet
 config_takes k p g w = config_arrives k p g w
 
 -- ---- what a part of a step says of it
@@ -268,7 +268,7 @@ pub goes_shut : (k : Conn) (why : HubClose) (fits : Bool) (old new : HubState) (
 goes_shut k why fits old new said says goes =
     ap (λ (h : HubState). stage_of k h.connections) (sym (goes.hub (so_far old said) refl refl)) ∙ closed_is_shut k why fits (so_far old said)
 
-pub goes_config : (k : Conn) (p : Packet) (g : Growth) (old new : HubState) (said says : List Act) → Refines (takes k p g) old said new says
+pub goes_config : (k : Conn) (p : Packet) (g : Growth) (old new : HubState) (said says : List Act) → Refines (on_packet k p g) old said new says
     → new.config ≡ old.config
 goes_config k p g old new said says goes =
     ap (λ (h : HubState). h.config) (sym (goes.hub (so_far old said) refl refl)) ∙ config_takes k p g (so_far old said)

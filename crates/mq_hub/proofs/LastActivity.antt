@@ -11,7 +11,7 @@ use Rattle.mq_route.specs.declared.close.HubClose.TheVariants.{Own}
 use Rattle.mq_route.specs.declared.conn.Conn.{Conn}
 use Rattle.mq_route.specs.declared.connection_state.ConnectionState.{ConnectionState}
 use Rattle.mq_route.specs.declared.connection_state.ConnectionState.TheVariants.{AwaitingConnect, ConnectedAs, Closed}
-use Rattle.mq_route.specs.Arrives.{arrives, on_first_packet, dispatch_packet, touched, touched_on, takes, on_connected_packet}
+use Rattle.mq_route.specs.Arrives.{arrives, on_first_packet, dispatch_packet, touched, touched_on, on_packet, on_connected_packet}
 use Rattle.mq_route.specs.Hub.{HubState, HubConnection, is_connection, is_open, key_on, stage_of, with_connection, with_left}
 use Rattle.mq_route.specs.Work.{Work, close, leaves_behind, said, shut, shut_down, with_sessions}
 use Rattle.mq_tables.specs.Connections.{touched_at}
@@ -98,8 +98,8 @@ close_heard k why fits w =
 module _ (k : Conn) (p : Packet) (fits : Bool) (old new : HubState) (did says : List Act) where
   -- a packet is handled after its time was recorded
   pub taken_in : Refines (dispatch_packet k p fits (stage_of k (with_touched k old).connections)) (with_touched k old) did new says
-      → Refines (takes k p (record { fits = true; will_fits = fits })) old did new says
-  unfolding takes arrives
+      → Refines (on_packet k p (record { fits = true; will_fits = fits })) old did new says
+  unfolding on_packet arrives
   taken_in goes = record {
     hub = λ w e f. ap (λ (v : Work). v.hub) (turned w e) ∙ goes.hub (touched_on k w) (ap (with_touched k) e) f;
     did = λ w e f. ap (λ (v : Work). v.did) (turned w e) ∙ goes.did (touched_on k w) (ap (with_touched k) e) f;
@@ -113,8 +113,8 @@ module _ (k : Conn) (p : Packet) (fits : Bool) (old new : HubState) (did says : 
           ∙ ap (λ (s : ConnectionState). dispatch_packet k p fits s (touched_on k w)) (sym (stage_heard old.clock k old.connections))
 
   -- an allocation failed: the connection is closed
-  pub taken_not : Refines (close k memory fits) (with_touched k old) did new says → Refines (takes k p (record { fits = false; will_fits = fits })) old did new says
-  unfolding takes arrives
+  pub taken_not : Refines (close k memory fits) (with_touched k old) did new says → Refines (on_packet k p (record { fits = false; will_fits = fits })) old did new says
+  unfolding on_packet arrives
   taken_not goes = record {
     hub = λ w e f. ap (λ (v : Work). v.hub) (turned w) ∙ goes.hub (touched_on k w) (ap (with_touched k) e) f;
     did = λ w e f. ap (λ (v : Work). v.did) (turned w) ∙ goes.did (touched_on k w) (ap (with_touched k) e) f;

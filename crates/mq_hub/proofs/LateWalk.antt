@@ -23,9 +23,9 @@ use Rattle.mq_route.specs.declared.connection_state.ConnectionState.TheVariants.
 use Rattle.mq_route.specs.Copies.{will_message}
 use Rattle.mq_route.specs.Hub.{HubState, HubConnection, changed, copies_of, end_of, is_connection, knows, stage_of, up_on, with_end, with_connection}
 use Rattle.mq_route.specs.Routed.{same_conn}
-use Rattle.mq_route.specs.Step.{Ticks, expire, expired_keys, has_passed, late_reason, remove_all, told}
+use Rattle.mq_route.specs.Step.{OnTick, expire, expired_keys, has_passed, late_reason, remove_all, with_clock}
 use Rattle.mq_route.specs.Step.Ticks.{Done, InTime, Late}
-use Rattle.mq_route.specs.Work.{Work, begin, close, does, have_room, is_missed, last_will, leaves_behind, place, place_all, publishes_next, put_on, put_where, remove, remove_if, said, deliver, shut, shut_down, will_after, with_sessions}
+use Rattle.mq_route.specs.Work.{Work, begin, close, does, have_room, is_missed, last_will, leaves_behind, enqueue, enqueue_all, publishes_next, put_on, put_where, remove, remove_if, said, deliver, shut, shut_down, will_after, with_sessions}
 use Rattle.mq_tables.specs.declared.sessions.session.BrokerSession.{BrokerSession}
 use Rattle.mq_tables.specs.Alarms.{is_late_on}
 use Rattle.mq_tables.specs.Late.{AreInTime, HasLate}
@@ -93,16 +93,16 @@ unfolding does
 leaves_does key move w =
     leaves_put_where (up_on key w.hub.connections) (move (end_of key w.hub.sessions)).out (with_sessions (with_end key (move (end_of key w.hub.sessions)).end) w)
 
-leaves_place : (key : ℕ) (m : Message) (w : Work) → Leaves w (place key m w)
-unfolding place
+leaves_place : (key : ℕ) (m : Message) (w : Work) → Leaves w (enqueue key m w)
+unfolding enqueue
 leaves_place key m w =
     cond_both (is_missed key m w.hub) (said (acts.Missed key m) w) (said (acts.Placed key m) (does key (publishes_next m) w)) (Leaves w)
     (λ e. refl)
     (λ e. leaves_does key (publishes_next m) w)
 
-leaves_place_all : (copies : List (ℕ × Message)) (w : Work) → Leaves w (place_all copies w)
+leaves_place_all : (copies : List (ℕ × Message)) (w : Work) → Leaves w (enqueue_all copies w)
 leaves_place_all [] w = refl
-leaves_place_all (c ∷ cs) w = leaves_place_all cs (place c.0 c.1 w) ∙ leaves_place c.0 c.1 w
+leaves_place_all (c ∷ cs) w = leaves_place_all cs (enqueue c.0 c.1 w) ∙ leaves_place c.0 c.1 w
 
 leaves_share : (act : Act) (m : Message) (w : Work) → Leaves w (deliver act m w)
 unfolding deliver
@@ -247,7 +247,7 @@ module _ (within : Option ℕ) (now : ℕ) where
 -- ---- none is late
 
 module _ (within : Option ℕ) (now : ℕ) where
-  ticks_none : (xs : List HubConnection) (w w2 : Work) → Ticks within now xs w w2 → AreInTime within now xs → w2 ≡ w
+  ticks_none : (xs : List HubConnection) (w w2 : Work) → OnTick within now xs w w2 → AreInTime within now xs → w2 ≡ w
   ticks_none xs w w2 (Done v) all = refl
   ticks_none xs w w2 (InTime x ys v v2 soon more) all = ticks_none ys v v2 more all.1
   ticks_none xs w w2 (Late x ys why fits v v2 late more) all =
@@ -262,9 +262,9 @@ pub idle_before : (time : ℕ) (h : HubState) → ((now : ℕ) → now < time �
     → ((now : ℕ) → now < time → expired_keys (record h { clock = now }) ≡ []) → IsIdleBefore time h
 unfolding expire
 idle_before time h none kept = λ now r h2 soon step.
-    let start : expire (told now h) ≡ begin (told now h) = ap (λ (keys : List ℕ). remove_all keys (begin (told now h))) (kept (max h.clock now) soon) in
-    let same : step.work ≡ begin (told now h) =
-    ticks_none h.config.connect_within (max h.clock now) h.connections (expire (told now h)) step.work step.does.0 (none (max h.clock now) soon) ∙ start in
+    let start : expire (with_clock now h) ≡ begin (with_clock now h) = ap (λ (keys : List ℕ). remove_all keys (begin (with_clock now h))) (kept (max h.clock now) soon) in
+    let same : step.work ≡ begin (with_clock now h) =
+    ticks_none h.config.connect_within (max h.clock now) h.connections (expire (with_clock now h)) step.work step.does.0 (none (max h.clock now) soon) ∙ start in
     (ap (λ (s : HubReply). s.acts) step.does.1 ∙ ap (λ (w : Work). w.did) same, step.after ∙ ap (λ (w : Work). w.hub) same)
 
 module _ (until top : ℕ) (h : HubState) (quiet : (now : ℕ) → now ≤ until → AreInTime h.config.connect_within now h.connections)
@@ -325,7 +325,7 @@ pub record IsTicking (within : Option ℕ) (now : ℕ) (start : Work) (i : ℕ) 
   pub work : Work
   pub hub : work.hub ≡ h
   pub did : work.did ≡ says
-  pub rest : (v : Work) → Ticks within now (drop i start.hub.connections) work v → Ticks within now start.hub.connections (start) v
+  pub rest : (v : Work) → OnTick within now (drop i start.hub.connections) work v → OnTick within now start.hub.connections (start) v
   pub same : drop i (places h.connections) ≡ drop i (places start.hub.connections)
   pub passed : AllInTime within now (take i (places h.connections))
   pub count : length (places h.connections) ≡ length (places start.hub.connections)
@@ -371,17 +371,17 @@ module _ (within : Option ℕ) (now : ℕ) (start : Work) (i : ℕ) (h : HubStat
   }
     where
       skip : (ys : List HubConnection) → drop i start.hub.connections ≡ ys → None ≡ late_first within now (places ys) → (v : Work)
-          → Ticks within now (drop (i + 1) start.hub.connections) t.work v → Ticks within now (drop i start.hub.connections) t.work v
+          → OnTick within now (drop (i + 1) start.hub.connections) t.work v → OnTick within now (drop i start.hub.connections) t.work v
       skip [] e is v s =
-          subst (λ (l : List HubConnection). Ticks within now l t.work v) (ap (λ (n : ℕ). drop n start.hub.connections) (add-one i) ∙ drop_none i start.hub.connections e ∙ sym e) s
+          subst (λ (l : List HubConnection). OnTick within now l t.work v) (ap (λ (n : ℕ). drop n start.hub.connections) (add-one i) ∙ drop_none i start.hub.connections e ∙ sym e) s
       skip (x ∷ ys) e is v s = go (late_at within now (place_of x)) refl
         where
-          go : (b : Bool) → late_at within now (place_of x) ≡ b → Ticks within now (drop i start.hub.connections) t.work v
+          go : (b : Bool) → late_at within now (place_of x) ≡ b → OnTick within now (drop i start.hub.connections) t.work v
           go true late = let c = is ∙ cond-true (late_at within now (place_of x)) (Some (close_of (place_of x))) None late in absurd cc
           go false early =
-              subst (λ (l : List HubConnection). Ticks within now l t.work v) (sym e)
+              subst (λ (l : List HubConnection). OnTick within now l t.work v) (sym e)
               (InTime x ys t.work v (no_reason within now x.since x.stage early)
-              (subst (λ (l : List HubConnection). Ticks within now l t.work v) (ap (λ (n : ℕ). drop n start.hub.connections) (add-one i) ∙ drop_next i start.hub.connections ys x e) s))
+              (subst (λ (l : List HubConnection). OnTick within now l t.work v) (ap (λ (n : ℕ). drop n start.hub.connections) (add-one i) ∙ drop_next i start.hub.connections ys x e) s))
 
   module _ (k : Conn) (why : HubClose) (is : Some (k, why) ≡ late_of within now (slice_get h.connections i)) where
     -- the late connection, and those behind it
@@ -427,10 +427,10 @@ module _ (within : Option ℕ) (now : ℕ) (start : Work) (i : ℕ) (h : HubStat
           work = w;
           hub = hub;
           did = goes.1.did t.work t.hub t.did;
-          rest = λ v s. t.rest v (subst (λ (l : List HubConnection). Ticks within now l t.work v) (sym q.there)
+          rest = λ v s. t.rest v (subst (λ (l : List HubConnection). OnTick within now l t.work v) (sym q.there)
               (Late q.line q.behind why goes.0 t.work v q.late
-              (subst (λ (c : Conn). Ticks within now q.behind (close c why goes.0 t.work) v) q.name
-              (subst (λ (l : List HubConnection). Ticks within now l w v) (ap (λ (n : ℕ). drop n start.hub.connections) (add-one i) ∙ drop_next i start.hub.connections q.behind q.line q.there) s))));
+              (subst (λ (c : Conn). OnTick within now q.behind (close c why goes.0 t.work) v) q.name
+              (subst (λ (l : List HubConnection). OnTick within now l w v) (ap (λ (n : ℕ). drop n start.hub.connections) (add-one i) ∙ drop_next i start.hub.connections q.behind q.line q.there) s))));
           same = next_same g
               (ap (drop (i + 1)) placed ∙ drop-map (shut_at k) (i + 1) (places h.connections) ∙ ap (map (shut_at k)) (drop-map place_of (i + 1) h.connections)
               ∙ others k (drop (i + 1) h.connections) apart ∙ sym (drop-map place_of (i + 1) h.connections));
@@ -452,7 +452,7 @@ module _ (within : Option ℕ) (now : ℕ) (start : Work) (i : ℕ) (h : HubStat
   pub ticks_last : length start.hub.connections ≤ i → TicksFrom within now start h says
   ticks_last past = record {
     work = t.work;
-    ticks = t.rest t.work (subst (λ (l : List HubConnection). Ticks within now l t.work t.work) (sym (drop_all i start.hub.connections past)) (Done t.work));
+    ticks = t.rest t.work (subst (λ (l : List HubConnection). OnTick within now l t.work t.work) (sym (drop_all i start.hub.connections past)) (Done t.work));
     hub = sym t.hub;
     did = sym t.did;
   }

@@ -22,7 +22,7 @@ use Rattle.mq_tables.specs.Calls.{CanServe}
 use Rattle.mq_tables.specs.Connections.{ConnectionList}
 use Rattle.mq_tables.specs.Tables.{HubTables}
 use Rattle.mq_tables.specs.Sessions.{sessions_of}
-use Rattle.mq_hub.specs.declared.publish.reception.Reception.TheVariants.{Handed}
+use Rattle.mq_hub.specs.declared.publish.reception.Reception.TheVariants.{New}
 use Rattle.mq_hub.specs.Inside.Requests.{AreAlike, Answers}
 use Rattle.mq_hub.specs.Inside.Refinement.{Refines}
 use Rattle.mq_hub.specs.Inside.Invariant.{HubInvariant}
@@ -45,11 +45,11 @@ copies_by m h g rows up =
 
 -- ---- a PUBLISH that was taken apart and put together again
 
-pub handed_as : (m n : Publication) (h g : HubState) (key : ℕ) → n ≡ m → g ≡ h → IsReceived Handed m (end_of key h.sessions)
-    → IsReceived Handed n (end_of key g.sessions)
+pub handed_as : (m n : Publication) (h g : HubState) (key : ℕ) → n ≡ m → g ≡ h → IsReceived New m (end_of key h.sessions)
+    → IsReceived New n (end_of key g.sessions)
 handed_as m n h g key same hub handed =
-    subst (λ (p : Publication). IsReceived Handed p (end_of key g.sessions)) (sym same)
-    (subst (λ (s : HubState). IsReceived Handed m (end_of key s.sessions)) (sym hub) handed)
+    subst (λ (p : Publication). IsReceived New p (end_of key g.sessions)) (sym same)
+    (subst (λ (s : HubState). IsReceived New m (end_of key s.sessions)) (sym hub) handed)
 
 pub taken_as : (n m : Publication) (key now : ℕ) (p u : HubTables) → n ≡ m → Answers key (Takes now (packets.Publish n)) p.rows p u
     → Answers key (Takes now (packets.Publish m)) p.rows p u
@@ -81,7 +81,7 @@ module _ (config : HubConfig) (clock next key : ℕ) (t p : HubTables) (kept : H
   pub can_hand : CanServe key (Takes clock (packets.Publish m)) p.sessions.list
   can_hand = can_take config next p kept_ready key conn on_ready clock (packets.Publish m)
 
-  module _ (handed : IsReceived Handed m (end_of key old.sessions)) where
+  module _ (handed : IsReceived New m (end_of key old.sessions)) where
     pub stays_ready : (server_gets (packets.Publish m) (end_of key (sessions_of p.sessions.list))).close ≡ None
     stays_ready = ap (λ (h : HubState). (server_gets (packets.Publish m) (end_of key h.sessions)).close) same_ready ∙ handed.0
 

@@ -5,7 +5,7 @@ use Rattle.mq_end.specs.State.{EndState}
 use Rattle.mq_route.specs.declared.config.HubConfig.{HubConfig}
 use Rattle.mq_route.specs.declared.conn.Conn.{Conn}
 use Rattle.mq_route.specs.Hub.{key_on, stage_of, waiting_on, with_connection}
-use Rattle.mq_route.specs.Step.{collected}
+use Rattle.mq_route.specs.Step.{on_collect}
 use Rattle.mq_tables.specs.declared.sessions.session.BrokerSession.{BrokerSession}
 use Rattle.mq_tables.specs.Output.{Collects, drained}
 use Rattle.mq_tables.specs.Connections.{ConnectionList}
@@ -60,7 +60,7 @@ module _ (config : HubConfig) (next key : ℕ) (s : BrokerSession) (e : EndState
     up_bytes (Ok b) is = is.0 ∙ sym (waits_up k key s t.sessions.list t.connections.connections up there)
     up_bytes (Err x) is = tt
 
-    pub up_taken : (r : Answer) → Collects r s.end e → OnOk r (hub_of config clock next u ≡ collected k (hub_of config clock next t))
+    pub up_taken : (r : Answer) → Collects r s.end e → OnOk r (hub_of config clock next u ≡ on_collect k (hub_of config clock next t))
     up_taken (Ok b) is =
         hub_drained config next key e.room s t u there kept rows retained (taken_out is.1) (ap (λ (l : ConnectionList). l.connections) connections) clock k up
     up_taken (Err x) is = tt
@@ -90,7 +90,7 @@ module _ (config : HubConfig) (next : ℕ) (k : Conn) (t u : HubTables) (kept : 
     own_bytes_as (Ok b) is = is ∙ sym (waiting_own k t.sessions.list t.connections.connections down)
     own_bytes_as (Err x) is = tt
 
-    pub own_taken : (r : Answer) → OnOk r (u.connections.connections ≡ with_connection emptied k t.connections.connections) → OnOk r (hub_of config clock next u ≡ collected k (hub_of config clock next t))
+    pub own_taken : (r : Answer) → OnOk r (u.connections.connections ≡ with_connection emptied k t.connections.connections) → OnOk r (hub_of config clock next u ≡ on_collect k (hub_of config clock next t))
     own_taken (Ok b) taken = hub_emptied config clock next k t u kept down own_rows own_retained own_list taken
     own_taken (Err x) taken = tt
 

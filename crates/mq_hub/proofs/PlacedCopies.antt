@@ -20,7 +20,7 @@ use Rattle.mq_route.specs.declared.connection_state.ConnectionState.TheVariants.
 use Rattle.mq_route.specs.Copies.{copy, is_hidden_name, kept, retained_for}
 use Rattle.mq_route.specs.Hub.{HubState, HubSession, HubConnection, copies_of, end_of, for_key, is_for, is_connection, knows, up_on, waiting_on, with_end, with_connection}
 use Rattle.mq_route.specs.Routed.{same_conn}
-use Rattle.mq_route.specs.Work.{Work, does, drops_copies, is_missed, lacks_output, leaves, pending_on, place, place_all, publish_bytes, publishes_next, put_on, put_where, retained_copies, said, deliver, with_sessions}
+use Rattle.mq_route.specs.Work.{Work, does, drops_copies, is_missed, lacks_output, leaves, pending_on, enqueue, enqueue_all, publish_bytes, publishes_next, put_on, put_where, retained_copies, said, deliver, with_sessions}
 use Rattle.mq_tables.specs.declared.sessions.session.BrokerSession.{BrokerSession}
 use Rattle.mq_tables.specs.Publishing.{IsReadyAt, placed_at, published}
 use Rattle.mq_tables.specs.Tables.{HubTables}
@@ -251,13 +251,13 @@ put_did None ps w = refl
 put_did (Some k) ps w = refl
 
 -- one that its session has room for, or that is not dropped
-place_goes : (key : ℕ) (m : Message) (w : Work) → is_missed key m w.hub ≡ false → place key m w ≡ said (acts.Placed key m) (does key (publishes_next m) w)
-unfolding place
+place_goes : (key : ℕ) (m : Message) (w : Work) → is_missed key m w.hub ≡ false → enqueue key m w ≡ said (acts.Placed key m) (does key (publishes_next m) w)
+unfolding enqueue
 place_goes key m w goes = cond-false (is_missed key m w.hub) (said (acts.Missed key m) w) (said (acts.Placed key m) (does key (publishes_next m) w)) goes
 
 -- one that is dropped
-place_misses : (key : ℕ) (m : Message) (w : Work) → is_missed key m w.hub ≡ true → place key m w ≡ said (acts.Missed key m) w
-unfolding place
+place_misses : (key : ℕ) (m : Message) (w : Work) → is_missed key m w.hub ≡ true → enqueue key m w ≡ said (acts.Missed key m) w
+unfolding enqueue
 place_misses key m w misses = cond-true (is_missed key m w.hub) (said (acts.Missed key m) w) (said (acts.Placed key m) (does key (publishes_next m) w)) misses
 
 -- a client misses the copy as its session says
@@ -307,14 +307,14 @@ module _ (config : HubConfig) (clock next_key : ℕ) (t : HubTables) (key : ℕ)
         (up_seen key t.sessions.list t.connections.connections) (sessions_placed key m s t.sessions.list up there)
         ∙ by_line (up_on key t.connections.connections) refl
 
-    pub place_hub : (w : Work) → w.hub ≡ hub_of config clock next_key t → is_missed key m w.hub ≡ false → (place key m w).hub ≡ hub_of config clock next_key after
+    pub place_hub : (w : Work) → w.hub ≡ hub_of config clock next_key t → is_missed key m w.hub ≡ false → (enqueue key m w).hub ≡ hub_of config clock next_key after
     unfolding does
     place_hub w is goes =
         ap (λ (v : Work). v.hub) (place_goes key m w goes)
         ∙ put_hub (up_on key w.hub.connections) (publishes_next m (end_of key w.hub.sessions)).out (with_sessions (with_end key (publishes_next m (end_of key w.hub.sessions)).end) w)
         ∙ ap going is ∙ gone
 
-place_did : (key : ℕ) (m : Message) (w : Work) → is_missed key m w.hub ≡ false → (place key m w).did ≡ w.did ++ acts.Placed key m ∷ []
+place_did : (key : ℕ) (m : Message) (w : Work) → is_missed key m w.hub ≡ false → (enqueue key m w).did ≡ w.did ++ acts.Placed key m ∷ []
 unfolding does
 place_did key m w goes =
     ap (λ (v : Work). v.did) (place_goes key m w goes)
@@ -365,8 +365,8 @@ ascending_placed key m (s ∷ ts) up = go (eqb s.key key) (ascending_placed key 
 pub placed_goes : (config : HubConfig) (clock next_key : ℕ) (t : HubTables) (cs : List (ℕ × Message)) → AreAscending t.sessions.list → AreApart t.connections.connections
     → AreHeard t.connections.connections cs
     → ArePlaceable t.sessions.list (kept_copies config (λ k. 0) cs t.sessions.list) → (w : Work) → w.hub ≡ hub_of config clock next_key t
-    → ((place_all cs w).hub ≡ hub_of config clock next_key (with_list (placed_all (kept_copies config (λ k. 0) cs t.sessions.list) t.sessions.list) t))
-    × ((place_all cs w).did ≡ w.did ++ settled_acts config (λ k. 0) cs t.sessions.list)
+    → ((enqueue_all cs w).hub ≡ hub_of config clock next_key (with_list (placed_all (kept_copies config (λ k. 0) cs t.sessions.list) t.sessions.list) t))
+    × ((enqueue_all cs w).did ≡ w.did ++ settled_acts config (λ k. 0) cs t.sessions.list)
 placed_goes config clock next_key t [] up apart heard all w is = (is, sym (append-nil w.did))
 placed_goes config clock next_key t (c ∷ cs) up apart heard all w is =
     go (misses config (λ k. 0) t.sessions.list c) refl (λ rest v at. placed_goes config clock next_key t cs up apart heard.1 rest v at)
@@ -374,17 +374,17 @@ placed_goes config clock next_key t (c ∷ cs) up apart heard all w is =
   where
     go : (b : Bool) → misses config (λ k. 0) t.sessions.list c ≡ b
         → (ArePlaceable t.sessions.list (kept_copies config (λ k. 0) cs t.sessions.list) → (v : Work) → v.hub ≡ hub_of config clock next_key t
-        → ((place_all cs v).hub ≡ hub_of config clock next_key (with_list (placed_all (kept_copies config (λ k. 0) cs t.sessions.list) t.sessions.list) t))
-        × ((place_all cs v).did ≡ v.did ++ settled_acts config (λ k. 0) cs t.sessions.list))
+        → ((enqueue_all cs v).hub ≡ hub_of config clock next_key (with_list (placed_all (kept_copies config (λ k. 0) cs t.sessions.list) t.sessions.list) t))
+        × ((enqueue_all cs v).did ≡ v.did ++ settled_acts config (λ k. 0) cs t.sessions.list))
         → (ArePlaceable (placed_at c.0 c.1 t.sessions.list) (kept_copies config (λ k. 0) cs (placed_at c.0 c.1 t.sessions.list)) → (v : Work)
         → v.hub ≡ hub_of config clock next_key (with_list (placed_at c.0 c.1 t.sessions.list) t)
-        → ((place_all cs v).hub ≡ hub_of config clock next_key (with_list (placed_all (kept_copies config (λ k. 0) cs (placed_at c.0 c.1 t.sessions.list)) (placed_at c.0 c.1 t.sessions.list)) t))
-        × ((place_all cs v).did ≡ v.did ++ settled_acts config (λ k. 0) cs (placed_at c.0 c.1 t.sessions.list)))
-        → ((place_all (c ∷ cs) w).hub ≡ hub_of config clock next_key (with_list (placed_all (kept_copies config (λ k. 0) (c ∷ cs) t.sessions.list) t.sessions.list) t))
-        × ((place_all (c ∷ cs) w).did ≡ w.did ++ settled_acts config (λ k. 0) (c ∷ cs) t.sessions.list)
+        → ((enqueue_all cs v).hub ≡ hub_of config clock next_key (with_list (placed_all (kept_copies config (λ k. 0) cs (placed_at c.0 c.1 t.sessions.list)) (placed_at c.0 c.1 t.sessions.list)) t))
+        × ((enqueue_all cs v).did ≡ v.did ++ settled_acts config (λ k. 0) cs (placed_at c.0 c.1 t.sessions.list)))
+        → ((enqueue_all (c ∷ cs) w).hub ≡ hub_of config clock next_key (with_list (placed_all (kept_copies config (λ k. 0) (c ∷ cs) t.sessions.list) t.sessions.list) t))
+        × ((enqueue_all (c ∷ cs) w).did ≡ w.did ++ settled_acts config (λ k. 0) (c ∷ cs) t.sessions.list)
     go true e missed placed =
         let ts = t.sessions.list in
-        let v = place c.0 c.1 w in
+        let v = enqueue c.0 c.1 w in
         let now = place_misses c.0 c.1 w (ap (is_missed c.0 c.1) is ∙ missed_same config clock next_key t c.0 c.1 apart heard.0 ∙ e) in
         let kept = cond-true (misses config (λ k. 0) ts c) (kept_copies config (λ k. 0) cs ts) (c ∷ kept_copies config (λ k. 0) cs (placed_at c.0 c.1 ts)) e in
         let says = cond-true (misses config (λ k. 0) ts c) (acts.Missed c.0 c.1 ∷ settled_acts config (λ k. 0) cs ts) (acts.Placed c.0 c.1 ∷ settled_acts config (λ k. 0) cs (placed_at c.0 c.1 ts)) e in
@@ -402,7 +402,7 @@ placed_goes config clock next_key t (c ∷ cs) up apart heard all w is =
         let s = placeable.0.session in
         let goes = ap (is_missed c.0 c.1) is ∙ missed_same config clock next_key t c.0 c.1 apart heard.0 ∙ e in
         let hub = place_hub config clock next_key t c.0 c.1 s up placeable.0.there apart w is goes in
-        let rest = placed (still_placeable c.0 c.1 ts (kept_copies config (λ k. 0) cs us) placeable.1) (place c.0 c.1 w) hub in (
+        let rest = placed (still_placeable c.0 c.1 ts (kept_copies config (λ k. 0) cs us) placeable.1) (enqueue c.0 c.1 w) hub in (
           rest.0 ∙ ap (λ (xs : List (ℕ × Message)). hub_of config clock next_key (with_list (placed_all xs ts) t)) (sym kept),
           rest.1 ∙ ap (λ (did : List Act). did ++ settled_acts config (λ k. 0) cs us) (place_did c.0 c.1 w goes)
               ∙ append_assoc w.did (acts.Placed c.0 c.1 ∷ []) (settled_acts config (λ k. 0) cs us) ∙ ap (λ (xs : List Act). w.did ++ xs) (sym says),
@@ -426,15 +426,15 @@ all_placeable more ts (c ∷ cs) all = (record { session = all.0.session; there 
 
 all_goes : (config : HubConfig) (clock next_key : ℕ) (t : HubTables) (cs kept : List (ℕ × Message)) (old : List BrokerSession) → t.sessions.list ≡ old → CanPlace t
     → AreHeard t.connections.connections cs → kept ≡ kept_copies config (λ k. 0) cs old → ArePlaceable old kept → (w : Work) → w.hub ≡ hub_of config clock next_key t
-    → ((place_all cs w).hub ≡ hub_of config clock next_key (with_list (placed_all (kept_copies config (λ k. 0) cs t.sessions.list) t.sessions.list) t))
-    × ((place_all cs w).did ≡ w.did ++ settled_acts config (λ k. 0) cs t.sessions.list)
+    → ((enqueue_all cs w).hub ≡ hub_of config clock next_key (with_list (placed_all (kept_copies config (λ k. 0) cs t.sessions.list) t.sessions.list) t))
+    × ((enqueue_all cs w).did ≡ w.did ++ settled_acts config (λ k. 0) cs t.sessions.list)
 all_goes config clock next_key t cs kept old same can heard is all w at =
     placed_goes config clock next_key t cs can.ascending can.apart heard
     (subst (λ (ts : List BrokerSession). ArePlaceable ts (kept_copies config (λ k. 0) cs ts)) (sym same) (subst (ArePlaceable old) is all)) w at
 
 pub goes : (config : HubConfig) (clock next_key : ℕ) (t : HubTables) (said says : List Act) (cs kept : List (ℕ × Message)) (old new : List BrokerSession) → t.sessions.list ≡ old
     → CanPlace t → AreHeard t.connections.connections cs → Settles config (λ k. 0) old cs kept says → ArePlaceable old kept → new ≡ placed_all kept old
-    → Refines (place_all cs) (hub_of config clock next_key t) said (hub_of config clock next_key (with_list new t)) (said ++ says)
+    → Refines (enqueue_all cs) (hub_of config clock next_key t) said (hub_of config clock next_key (with_list new t)) (said ++ says)
 goes config clock next_key t said says cs kept old new same can heard settles all is = record {
   hub = λ w at did. (all_goes config clock next_key t cs kept old same can heard settles.kept all w at).0
       ∙ ap (λ (ts : List BrokerSession). hub_of config clock next_key (with_list ts t))
@@ -464,11 +464,11 @@ pub shares : (config : HubConfig) (clock next_key : ℕ) (t : HubTables) (said_b
 unfolding deliver
 shares config clock next_key t said_before says act m cs placed report old new ms same keeps can due settles all is says_is = record {
   hub = λ w at did.
-      ap (λ (xs : List (ℕ × Message)). (place_all xs (retaining act m w)).hub) (ap (copies_of m) at ∙ due)
+      ap (λ (xs : List (ℕ × Message)). (enqueue_all xs (retaining act m w)).hub) (ap (copies_of m) at ∙ due)
       ∙ (goes config clock next_key (with_retained ms t) (said_before ++ act ∷ []) report cs placed old new same (record { ascending = can.ascending; apart = can.apart }) (subst (AreHeard t.connections.connections) due (heard_copies config clock next_key t m)) settles all is).hub (retaining act m w)
       (retained_at config clock next_key t act m ms keeps w at) (ap (λ (xs : List Act). xs ++ act ∷ []) did);
   did = λ w at did.
-      ap (λ (xs : List (ℕ × Message)). (place_all xs (retaining act m w)).did) (ap (copies_of m) at ∙ due)
+      ap (λ (xs : List (ℕ × Message)). (enqueue_all xs (retaining act m w)).did) (ap (copies_of m) at ∙ due)
       ∙ (goes config clock next_key (with_retained ms t) (said_before ++ act ∷ []) report cs placed old new same (record { ascending = can.ascending; apart = can.apart }) (subst (AreHeard t.connections.connections) due (heard_copies config clock next_key t m)) settles all is).did (retaining act m w)
       (retained_at config clock next_key t act m ms keeps w at) (ap (λ (xs : List Act). xs ++ act ∷ []) did)
       ∙ sym says_is;

@@ -8,7 +8,7 @@ use Rattle.mq_route.specs.declared.event.HubEvent.TheVariants.{Ended}
 use Rattle.mq_route.specs.declared.refusal.HubRefusal.TheVariants as refusals
 use Rattle.mq_route.specs.declared.reply.HubReply.{HubReply}
 use Rattle.mq_route.specs.Hub.{HubState, HubConnection, is_for, is_connection, is_open, key_on, knows, stage_of, up_on, without_connection, stage_for}
-use Rattle.mq_route.specs.Step.{HubStep, ended, ended_open}
+use Rattle.mq_route.specs.Step.{HubStep, on_end, close_if_open}
 use Rattle.mq_route.specs.Work.{begin}
 use Rattle.mq_tables.specs.declared.sessions.session.BrokerSession.{BrokerSession}
 use Rattle.mq_tables.specs.Tables.{HubTables}
@@ -129,14 +129,14 @@ module _ (k : Conn) where
 
 -- the event as a whole
 pub ended_step : (k : Conn) (h mid g : HubState) (x y : List Act) (r : HubReply) → knows k h.connections ≡ true → x ≡ []
-    → (fits : Bool) × Refines (ended_open k (is_open (stage_of k h.connections)) fits) h x mid y → g ≡ record mid { connections = without_connection k mid.connections }
+    → (fits : Bool) × Refines (close_if_open k (is_open (stage_of k h.connections)) fits) h x mid y → g ≡ record mid { connections = without_connection k mid.connections }
     → r ≡ record { acts = y; output = []; alive = false } → HubStep h (Ended k) r g
 ended_step k h mid g x y r known none p after says =
     let hub = p.1.hub (begin h) refl (sym none) in
     let did = p.1.did (begin h) refl (sym none) in
     record {
       right = cond-true (knows k h.connections) None (Some refusals.UnknownConn) known;
-      work = ended k p.0 h;
+      work = on_end k p.0 h;
       does = (p.0, refl, says ∙ ap (λ (a : List Act). record { acts = a; output = []; alive = false }) (sym did));
       after = after ∙ ap (λ (m : HubState). record m { connections = without_connection k m.connections }) (sym hub);
     }

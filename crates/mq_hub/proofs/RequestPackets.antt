@@ -8,7 +8,7 @@ use Rattle.mq_end.specs.declared.happening.Happening.{Happening}
 use Rattle.mq_end.specs.declared.reason.CloseReason.{CloseReason}
 use Rattle.mq_end.specs.declared.state.State.{State}
 use Rattle.mq_end.specs.declared.state.State.TheVariants.{Disconnected, Connecting, Connected}
-use Rattle.mq_end.specs.End.{End, Reply, closes, is_up, tells}
+use Rattle.mq_end.specs.End.{End, Reply, closes, is_up, reports_event}
 use Rattle.mq_end.specs.Server.{server_gets, server_up_gets}
 use Rattle.mq_route.specs.declared.act.Act.{Act}
 use Rattle.mq_route.specs.declared.close.HubClose.TheVariants.{Own, TargetFull, TooManyMatches}
@@ -45,11 +45,11 @@ module _ (config : HubConfig) (clock next key : ℕ) (t : HubTables) (kept : Hub
   pub gets_at : (p : Packet) → server_gets p (end_of key old.sessions) ≡ server_up_gets p at.session.end.end
   gets_at p = ap (server_gets p) (end_there key at.session t.sessions.list at.there) ∙ gets_up p at.session.end.end at.state
 
-  module _ (p : Packet) (h : Happening) (asks : (e : End) → server_up_gets p e ≡ tells h e) where
-    told : server_gets p at.session.end.end ≡ tells h at.session.end.end
+  module _ (p : Packet) (h : Happening) (asks : (e : End) → server_up_gets p e ≡ reports_event h e) where
+    told : server_gets p at.session.end.end ≡ reports_event h at.session.end.end
     told = gets_up p at.session.end.end at.state ∙ asks at.session.end.end
 
-    told_at : server_gets p (end_of key old.sessions) ≡ tells h at.session.end.end
+    told_at : server_gets p (end_of key old.sessions) ≡ reports_event h at.session.end.end
     told_at = gets_at p ∙ asks at.session.end.end
 
     same : Replies (server_gets p at.session.end.end) at.session.end at.session.end

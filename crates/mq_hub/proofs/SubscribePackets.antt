@@ -26,7 +26,7 @@ use Rattle.mq_route.specs.declared.conn.Conn.{Conn}
 use Rattle.mq_route.specs.Arrives.{answers, granted}
 use Rattle.mq_route.specs.Copies.{copy, retained_for}
 use Rattle.mq_route.specs.Hub.{HubState, HubConnection, for_key, up_on}
-use Rattle.mq_route.specs.Work.{Work, does, place_all, publishes_next, retained_copies, subscribed}
+use Rattle.mq_route.specs.Work.{Work, does, enqueue_all, publishes_next, retained_copies, subscribed}
 use Rattle.mq_tables.specs.declared.rules.CopyRules.{CopyRules}
 use Rattle.mq_tables.specs.declared.sessions.call.Call.TheVariants.{Grants}
 use Rattle.mq_tables.specs.declared.sessions.session.BrokerSession.{BrokerSession}
@@ -200,10 +200,10 @@ module _ (config : HubConfig) (next key : ℕ) (t u : HubTables) (kept : HubInva
           connections = all_seen u.sessions.list (sym connections i).connections;
         }
 
-    placed_goes : rules_of config ≡ rules → Refines (place_all (retained_copies key rs t.retained.messages)) (hub_of config clock next s.between) (did ++ subscribed_acts key rs)
+    placed_goes : rules_of config ≡ rules → Refines (enqueue_all (retained_copies key rs t.retained.messages)) (hub_of config clock next s.between) (did ++ subscribed_acts key rs)
         (hub_of config clock next u) ((did ++ subscribed_acts key rs) ++ says)
     placed_goes same =
-        subst (λ (h : HubState). Refines (place_all (retained_copies key rs t.retained.messages)) (hub_of config clock next s.between) (did ++ subscribed_acts key rs) h
+        subst (λ (h : HubState). Refines (enqueue_all (retained_copies key rs t.retained.messages)) (hub_of config clock next s.between) (did ++ subscribed_acts key rs) h
         ((did ++ subscribed_acts key rs) ++ says)) hub_placed
         (goes config clock next s.between (did ++ subscribed_acts key rs) says (retained_copies key rs t.retained.messages) (for_key key s.messages)
         s.between.sessions.list u.sessions.list refl (can_place config next s.between kept_between)
@@ -221,8 +221,8 @@ module _ (config : HubConfig) (next key : ℕ) (t u : HubTables) (kept : HubInva
         λ w at. ap (λ (h : HubState). retained_copies key rs h.retained) at in
         let q = served_goes in
         let p = placed_goes same_rules in record {
-          hub = λ w at said. ap (λ (cs : List (ℕ × Message)). (place_all cs (first w)).hub) (same w at) ∙ p.hub (first w) (q.hub w at said) (q.did w at said);
-          did = λ w at said. ap (λ (cs : List (ℕ × Message)). (place_all cs (first w)).did) (same w at) ∙ p.did (first w) (q.hub w at said) (q.did w at said);
+          hub = λ w at said. ap (λ (cs : List (ℕ × Message)). (enqueue_all cs (first w)).hub) (same w at) ∙ p.hub (first w) (q.hub w at said) (q.did w at said);
+          did = λ w at said. ap (λ (cs : List (ℕ × Message)). (enqueue_all cs (first w)).did) (same w at) ∙ p.did (first w) (q.hub w at said) (q.did w at said);
         }
 
 -- ---- the retained messages are settled before SUBACK is queued, and placed after it

@@ -10,7 +10,7 @@ use Rattle.mq_route.specs.declared.connection_state.ConnectionState.{ConnectionS
 use Rattle.mq_route.specs.declared.connection_state.ConnectionState.TheVariants.{AwaitingConnect, ConnectedAs, Closed}
 use Rattle.mq_route.specs.declared.connection_state.ConnectionTerms.{ConnectionTerms}
 use Rattle.mq_route.specs.Hub.{HubConnection, changed, is_connection, key_on, stage_of, waiting_on, with_connection}
-use Rattle.mq_route.specs.Step.{collected}
+use Rattle.mq_route.specs.Step.{on_collect}
 use Rattle.mq_tables.specs.declared.sessions.session.BrokerSession.{BrokerSession}
 use Rattle.mq_tables.specs.Output.{drained}
 use Rattle.mq_tables.specs.Tables.{HubTables}
@@ -109,7 +109,7 @@ module _ (config : HubConfig) (next key : ℕ) (room : Room) (s : BrokerSession)
       } in
       kept_by config next v u k rows retained list connections limits
 
-  pub hub_drained : (clock : ℕ) (k : Conn) → key_on (stage_of k t.connections.connections) ≡ Some key → hub_of config clock next u ≡ collected k (hub_of config clock next t)
+  pub hub_drained : (clock : ℕ) (k : Conn) → key_on (stage_of k t.connections.connections) ≡ Some key → hub_of config clock next u ≡ on_collect k (hub_of config clock next t)
   hub_drained clock k up =
       let ts = t.sessions.list in
       let xs = t.connections.connections in
@@ -161,7 +161,7 @@ kept_emptied config next k t u kept rows retained list connections limits =
 
 pub hub_emptied : (config : HubConfig) (clock next : ℕ) (k : Conn) (t u : HubTables) → HubInvariant config next t → key_on (stage_of k t.connections.connections) ≡ None → u.rows ≡ t.rows
     → u.retained.messages ≡ t.retained.messages → u.sessions.list ≡ t.sessions.list → u.connections.connections ≡ with_connection emptied k t.connections.connections
-    → hub_of config clock next u ≡ collected k (hub_of config clock next t)
+    → hub_of config clock next u ≡ on_collect k (hub_of config clock next t)
 hub_emptied config clock next k t u kept down rows retained list connections =
     let ts = t.sessions.list in
     let xs = t.connections.connections in

@@ -14,6 +14,7 @@ pub mod QueuedAnswer
 pub mod Reception
 pub mod Refinement
 pub mod Requests
+pub mod Run
 pub mod Settlement
 pub mod Subscriptions
 pub mod TableSteps

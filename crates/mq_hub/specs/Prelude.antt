@@ -1,4 +1,4 @@
--- What the source files of this crate cite. It declares nothing itself.
+-- The names that the source files of this crate cite. It declares none of its own.
 pub use Rattle.std.specs.Cmp.Lexicographic.{slice_cmp}
 pub use Rattle.std.specs.List.{flat_map, list_any}
 pub use Rattle.std.specs.List.Sorted.{IsNonDecreasing, IsPermutation, IsSorted}
@@ -19,18 +19,18 @@ pub use Rattle.mq_packet.specs.Encoding.{fields, encodings}
 pub use Rattle.mq_packet.specs.Publication.{fits_delivery}
 pub use Rattle.mq_packet.specs.declared.connect.Connect.{Connect}
 pub use Rattle.mq_packet.specs.declared.message.Message.{Message}
-pub use Rattle.mq_route.specs.Arrives.{on_malformed, accept_connect, on_first_packet, on_connect, start_session, terms_of, resume_session, dispatch_packet, Growth, takes, on_passed_packet, on_connected_packet, answers, granted}
+pub use Rattle.mq_route.specs.Arrives.{on_malformed, accept_connect, on_first_packet, on_connect, start_session, terms_of, resume_session, dispatch_packet, Growth, on_packet, on_passed_packet, on_connected_packet, answers, granted}
 pub use Rattle.mq_route.specs.Begun.{MayBegin}
 pub use Rattle.mq_route.specs.Copies.{copy, copy_by, will_message}
 pub use Rattle.mq_route.specs.Hub.{key_on, stage_of, is_clean, key_of, up_on, is_open, HubState, knows, without_connection, new_end, waiting_on, new_hub, end_of, held_on, copies_of, for_key, with_connection}
 pub use Rattle.mq_route.specs.Routed.{same_conn, placed, routed, settled, taken}
 pub use Rattle.mq_route.specs.Runs.{AreAccounts, IsRun, came_in}
 pub use Rattle.mq_route.specs.Snapshot.{quiet, snapshot, IsKeptWhole, IsStorable, restored}
-pub use Rattle.mq_route.specs.Step.{HubStep, ended_open, collected, event_refusal, expired_keys, remove_all, told}
+pub use Rattle.mq_route.specs.Step.{HubStep, close_if_open, on_collect, event_refusal, expired_keys, remove_all, with_clock}
 pub use Rattle.mq_route.specs.StepSome.{HubStepSome}
 pub use Rattle.mq_route.specs.Taken.{handed_from, of_client}
 pub use Rattle.mq_route.specs.Welcome.{needs_new, refusal, client_of, has_digest, has_password, is_hashed_login, is_hashed_one, is_one_of, is_unavailable, login_refusal, made_up, made_up_from, refusal_by_tables, ends_with}
-pub use Rattle.mq_route.specs.Work.{close, remove, remove_if, leaves, have_room, all_fit, lacks_room, place_all, retained_copies, deliver, drops_copies, last_will}
+pub use Rattle.mq_route.specs.Work.{close, remove, remove_if, leaves, have_room, all_fit, lacks_room, enqueue_all, retained_copies, deliver, drops_copies, last_will}
 pub use Rattle.mq_route.specs.declared.act.Act.{Act}
 pub use Rattle.mq_route.specs.declared.act.Act.TheVariants.{Missed, Placed, Took}
 pub use Rattle.mq_route.specs.declared.close.HubClose.TheVariants.{TakenOver}
@@ -69,4 +69,5 @@ pub use Rattle.mq_hub.specs.Inside.Subscriptions.{subscribed_acts, unsubscribed_
 pub use Rattle.mq_hub.specs.Inside.TableSteps.{AreHubTables, Proceeds, Spares}
 pub use Rattle.mq_hub.specs.Inside.Tick.{TicksTo, late_of}
 pub use Rattle.mq_hub.specs.Inside.View.{hub_of}
-pub use Rattle.mq_hub.specs.Run.{AreCollected, IsFollowed, IsRefused, IsTraced, acts_in}
+pub use Rattle.mq_hub.specs.Run.{AreCollected, IsFollowed, IsRefused, acts_in}
+pub use Rattle.mq_hub.specs.Inside.Run.{IsTraced}

@@ -1,5 +1,5 @@
 -- Events of a broker, one after another.
-use Rattle.std.specs.Prelude.{◌≡◌, List, ◌∷◌, ◌++◌, length, map, true, Some}
+use Rattle.std.specs.Prelude.{◌≡◌, List, ◌∷◌, ◌++◌, map, true, Some}
 use Rattle.std.specs.List.{flat_map}
 use Rattle.mq_packet.specs.Encoding.{encodings}
 use Rattle.mq_route.specs.declared.act.Act.{Act}
@@ -10,7 +10,7 @@ use Rattle.mq_route.specs.declared.refusal.HubRefusal.{HubRefusal}
 use Rattle.mq_route.specs.declared.reply.HubReply.{HubReply}
 use Rattle.mq_route.specs.declared.trace.HubTrace.{HubTrace}
 use Rattle.mq_route.specs.Hub.{HubState, knows, new_hub, waiting_on}
-use Rattle.mq_route.specs.Runs.{AreAccounts, Episode, Follows, Stays, on_conn, sent_in, written}
+use Rattle.mq_route.specs.Runs.{Episode, Follows, Stays, on_conn, sent_in, written}
 use Rattle.mq_route.specs.Step.{event_refusal}
 
 -- all acts of a run
@@ -33,13 +33,6 @@ pub record IsFollowed (old : HubState) (events : List HubEvent) (replies : List 
   pub came : map (λ e. e.event) episodes ≡ events
   pub replied : map (λ e. e.reply) episodes ≡ replies
   pub follows : Follows old episodes new
-
--- These events led the broker `old` to `new`, with the replies of this trace. The trace has one log
--- for each key that was given.
-pub record IsTraced (old : HubState) (events : List HubEvent) (trace : HubTrace) (new : HubState) : Type 0 where
-  pub followed : IsFollowed old events trace.replies new
-  pub keys : length trace.accounts ≡ new.next_key
-  pub accounts : AreAccounts 0 (flat_map (λ r. r.acts) trace.replies) trace.accounts
 
 -- One of these events is refused for this reason, after those before it led to `hub`.
 pub record IsRefused (old : HubState) (events : List HubEvent) (why : HubRefusal) : Type 0 where

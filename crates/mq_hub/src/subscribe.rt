@@ -9,7 +9,7 @@ ghost use Rattle.mq_route.specs.declared.close.HubClose.TheVariants as whys;
 use crate::acts::ActLog;
 use crate::hub::HubOver;
 use crate::publish::delivery::push_all;
-use crate::publish::enqueue::{place_for, retained_copies};
+use crate::publish::enqueue::{enqueue_for, retained_copies};
 use crate::publish::settle::{SettledMessages, settle_for};
 use crate::subscriptions::push_subscribed;
 use mq_end::{packet_len, size_laws};
@@ -85,7 +85,7 @@ pub(crate) fn subscribe<S: FilterStore>(
         .serve(key, Call::Grants(id, NonEmpty::from_vec(codes)));
     let SettledMessages { kept, acts } = settled;
     push_all(log, acts);
-    place_for(&mut tables.sessions, key, kept);
+    enqueue_for(&mut tables.sessions, key, kept);
     Ok(true)
 }
 

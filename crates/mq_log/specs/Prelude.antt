@@ -1,4 +1,4 @@
--- What the source files of this crate cite. It declares nothing itself.
+-- The names that the source files of this crate cite. It declares none of its own.
 pub use Rattle.mq_log.specs.Blocks.{entries, at_rest, body, behind, first_entry, is_block, number_in, rest, tail_of}
 pub use Rattle.mq_log.specs.Checksum.{checksum}
 pub use Rattle.mq_log.specs.Disk.{HasCause, Only, LeavesOnly}

@@ -8,7 +8,8 @@ use Rattle.mq_route.specs.declared.reply.HubReply.{HubReply}
 use Rattle.mq_loop.specs.declared.turns.Turn.{Turn}
 use Rattle.mq_loop.specs.Accounts.{Line, name_at}
 use Rattle.mq_loop.specs.Brokers.{is_input}
-use Rattle.mq_loop.specs.Calls.{Ages, AreCollects, Call, Collecting, Each, IsAscending, IsCovered, IsRound, Quietly, Reads, ReadsOf, age_at, ages_read, commit, places_in, places_read, step, with_calls}
+use Rattle.mq_loop.specs.Calls.{Ages, AreCollects, Call, Collecting, Each, IsAscending, IsCovered, IsRound, Reads, age_at, ages_read, commit, places_in, places_read, step, with_calls}
+use Rattle.mq_loop.specs.Inside.Calls.{Quietly, ReadsOf}
 use Rattle.mq_loop.specs.Rounds.{exists_at}
 use Rattle.mq_loop.proofs.Outputs.{output_same}
 use Rattle.mq_loop.specs.Inside.Turns.{AtLeast, Below, HeardSo, IsOldestFirst}

@@ -12,7 +12,7 @@ use Rattle.mq_route.specs.declared.reply.HubReply.{HubReply}
 use Rattle.mq_route.specs.Hub.{HubState}
 use Rattle.mq_route.specs.Runs.{Episode, Follows}
 use Rattle.mq_route.specs.Step.{Does, HubStep, event_refusal}
-use Rattle.mq_loop.specs.Accounts.{Account, AreCarried, Carries, CarriesAt, Line, account_from, account_of, account_step, line_at, name_at, opened, unopened}
+use Rattle.mq_loop.specs.Accounts.{ConnectionAccount, AreCarried, Carries, CarriesAt, Line, account_from, account_of, account_step, line_at, name_at, opened, unopened}
 use Rattle.mq_loop.specs.Sockets.{Sends}
 
 -- ---- lists and options
@@ -51,14 +51,14 @@ follows_last h mid g [] e f right does after =
     (subst (λ (b : HubState). event_refusal e.event b ≡ None) f right, subst (λ (b : HubState). Does b e.event e.reply e.work) f does, after)
 follows_last h mid g (x ∷ es) e f right does after = (f.0, f.1, follows_last x.work.hub mid g es e f.2 right does after)
 
-account_last : (k : Conn) (es : List Episode) (e : Episode) (a : Account) → account_from k (es ++ e ∷ []) a ≡ account_step k e.event e.reply (account_from k es a)
+account_last : (k : Conn) (es : List Episode) (e : Episode) (a : ConnectionAccount) → account_from k (es ++ e ∷ []) a ≡ account_step k e.event e.reply (account_from k es a)
 account_last k [] e a = refl
 account_last k (x ∷ es) e a = account_last k es e (account_step k x.event x.reply a)
 
 -- a step that keeps what each place carries
 served_step : (base h g : HubState) (lines new : List (Option Line)) (event : HubEvent) (reply : HubReply) → AreCarried base h lines
     → HubStep h event reply g
-    → ((p : ℕ) (a : Account) → CarriesAt a (line_at p lines) → CarriesAt (account_step (name_at p) event reply a) (line_at p new))
+    → ((p : ℕ) (a : ConnectionAccount) → CarriesAt a (line_at p lines) → CarriesAt (account_step (name_at p) event reply a) (line_at p new))
     → AreCarried base g new
 served_step base h g lines new event reply s step keeps =
     let e : Episode = record { event = event; reply = reply; work = step.work } in
@@ -66,15 +66,15 @@ served_step base h g lines new event reply s step keeps =
       made = s.made ++ e ∷ [];
       follows = follows_last base h g s.made e s.follows step.right step.does step.after;
       carries = λ p.
-          subst (λ (a : Account). CarriesAt a (line_at p new)) (sym (account_last (name_at p) s.made e unopened))
+          subst (λ (a : ConnectionAccount). CarriesAt a (line_at p new)) (sym (account_last (name_at p) s.made e unopened))
           (keeps p (account_of (name_at p) s.made) (s.carries p));
     }
 
 -- The account of one place changes, and the line there.
-at_place : (q : ℕ) (lines : List (Option Line)) (x : Option Line) (event : HubEvent) (reply : HubReply) (after : Account → Account)
-    → ((p : ℕ) (a : Account) → account_step (name_at p) event reply a ≡ cond (eqb q p) (after a) a) → q < length lines
-    → ((a : Account) → CarriesAt a (line_at q lines) → CarriesAt (after a) x)
-    → (p : ℕ) (a : Account) → CarriesAt a (line_at p lines) → CarriesAt (account_step (name_at p) event reply a) (line_at p (set lines q x))
+at_place : (q : ℕ) (lines : List (Option Line)) (x : Option Line) (event : HubEvent) (reply : HubReply) (after : ConnectionAccount → ConnectionAccount)
+    → ((p : ℕ) (a : ConnectionAccount) → account_step (name_at p) event reply a ≡ cond (eqb q p) (after a) a) → q < length lines
+    → ((a : ConnectionAccount) → CarriesAt a (line_at q lines) → CarriesAt (after a) x)
+    → (p : ℕ) (a : ConnectionAccount) → CarriesAt a (line_at p lines) → CarriesAt (account_step (name_at p) event reply a) (line_at p (set lines q x))
 at_place q lines x event reply after is within own p a c = go (eqb q p) refl
   where
     go : (b : Bool) → eqb q p ≡ b → CarriesAt (account_step (name_at p) event reply a) (line_at p (set lines q x))
@@ -82,16 +82,16 @@ at_place q lines x event reply after is within own p a c = go (eqb q p) refl
         let same : q ≡ p = eqb-true q p e in
         let here : CarriesAt (after a) x = own a (subst (λ (n : ℕ). CarriesAt a (line_at n lines)) (sym same) c) in
         let line : line_at p (set lines q x) ≡ x = subst (λ (n : ℕ). line_at n (set lines q x) ≡ x) same (set_same lines q x within) in
-        subst (λ (b : Account). CarriesAt b (line_at p (set lines q x))) (sym (is p a ∙ ap (λ (t : Bool). cond t (after a) a) e))
+        subst (λ (b : ConnectionAccount). CarriesAt b (line_at p (set lines q x))) (sym (is p a ∙ ap (λ (t : Bool). cond t (after a) a) e))
         (subst (λ (l : Option Line). CarriesAt (after a) l) (sym line) here)
     go false e =
         let line = set_other lines q p x (λ same. true≢false (sym (eq-eqb q p same) ∙ e)) in
-        subst (λ (b : Account). CarriesAt b (line_at p (set lines q x))) (sym (is p a ∙ ap (λ (t : Bool). cond t (after a) a) e))
+        subst (λ (b : ConnectionAccount). CarriesAt b (line_at p (set lines q x))) (sym (is p a ∙ ap (λ (t : Bool). cond t (after a) a) e))
         (subst (λ (l : Option Line). CarriesAt a l) (sym line) c)
 
 -- the line of one place changes, without a step
 line_served : (base h : HubState) (lines : List (Option Line)) (q : ℕ) (x : Option Line) → AreCarried base h lines → q < length lines
-    → ((a : Account) → CarriesAt a (line_at q lines) → CarriesAt a x) → AreCarried base h (set lines q x)
+    → ((a : ConnectionAccount) → CarriesAt a (line_at q lines) → CarriesAt a x) → AreCarried base h (set lines q x)
 line_served base h lines q x s within own = record { made = s.made; follows = s.follows; carries = λ p. go p (eqb q p) refl }
   where
     go : (p : ℕ) (b : Bool) → eqb q p ≡ b → CarriesAt (account_of (name_at p) s.made) (line_at p (set lines q x))
@@ -146,12 +146,12 @@ read_served base h g lines q old new piece front rest reply s step within is emp
     served_step base h g lines (set lines q (Some new)) (Bytes (name_at q) front) reply s step
     (at_place q lines (Some new) (Bytes (name_at q) front) reply (λ a. record a { took = a.took ++ front }) (λ p a. refl) within own)
   where
-    more : (a : Account) (bytes : List ℕ) → bytes ≡ a.took ++ old.unread → bytes ++ piece ≡ (a.took ++ front) ++ rest
+    more : (a : ConnectionAccount) (bytes : List ℕ) → bytes ≡ a.took ++ old.unread → bytes ++ piece ≡ (a.took ++ front) ++ rest
     more a bytes e =
         let all : bytes ≡ a.took = e ∙ (ap (λ (b : List ℕ). a.took ++ b) empty ∙ append-nil a.took) in
         ap₂ (λ (b c : List ℕ). b ++ c) all parts ∙ sym (append_assoc a.took front rest)
 
-    read : (a : Account) → Carries a old → Carries (record a { took = a.took ++ front }) (record old { came = append_known old.came piece; unread = rest; finished = new.finished })
+    read : (a : ConnectionAccount) → Carries a old → Carries (record a { took = a.took ++ front }) (record old { came = append_known old.came piece; unread = rest; finished = new.finished })
     read a c = record {
       is_open = c.is_open;
       came = λ whole.
@@ -159,7 +159,7 @@ read_served base h g lines q old new piece front rest reply s step within is emp
       went = c.went;
     }
 
-    own : (a : Account) → CarriesAt a (line_at q lines) → CarriesAt (record a { took = a.took ++ front }) (Some new)
+    own : (a : ConnectionAccount) → CarriesAt a (line_at q lines) → CarriesAt (record a { took = a.took ++ front }) (Some new)
     own a c = subst (λ (l : Line). Carries (record a { took = a.took ++ front }) l) (sym so) (read a (subst (λ (l : Option Line). CarriesAt a l) is c))
 
 pub unread_served : (base h g : HubState) (lines : List (Option Line)) (q : ℕ) (old new : Line) (front rest : List ℕ) (reply : HubReply)
@@ -169,17 +169,17 @@ unread_served base h g lines q old new front rest reply s step within is parts s
     served_step base h g lines (set lines q (Some new)) (Bytes (name_at q) front) reply s step
     (at_place q lines (Some new) (Bytes (name_at q) front) reply (λ a. record a { took = a.took ++ front }) (λ p a. refl) within own)
   where
-    more : (a : Account) (bytes : List ℕ) → bytes ≡ a.took ++ old.unread → bytes ≡ (a.took ++ front) ++ rest
+    more : (a : ConnectionAccount) (bytes : List ℕ) → bytes ≡ a.took ++ old.unread → bytes ≡ (a.took ++ front) ++ rest
     more a bytes e = e ∙ (ap (λ (b : List ℕ). a.took ++ b) parts ∙ sym (append_assoc a.took front rest))
 
-    read : (a : Account) → Carries a old → Carries (record a { took = a.took ++ front }) (record old { unread = rest })
+    read : (a : ConnectionAccount) → Carries a old → Carries (record a { took = a.took ++ front }) (record old { unread = rest })
     read a c = record {
       is_open = c.is_open;
       came = λ whole. known_so old.came (λ bytes. bytes ≡ a.took ++ old.unread) (λ bytes. bytes ≡ (a.took ++ front) ++ rest) (more a) (c.came whole);
       went = c.went;
     }
 
-    own : (a : Account) → CarriesAt a (line_at q lines) → CarriesAt (record a { took = a.took ++ front }) (Some new)
+    own : (a : ConnectionAccount) → CarriesAt a (line_at q lines) → CarriesAt (record a { took = a.took ++ front }) (Some new)
     own a c = subst (λ (l : Line). Carries (record a { took = a.took ++ front }) l) (sym so) (read a (subst (λ (l : Option Line). CarriesAt a l) is c))
 
 pub lost_step_served : (base h g : HubState) (lines : List (Option Line)) (q : ℕ) (old new : Line) (front : List ℕ) (came : Option (List ℕ)) (reply : HubReply)
@@ -189,20 +189,20 @@ lost_step_served base h g lines q old new front came reply s step within is so =
     served_step base h g lines (set lines q (Some new)) (Bytes (name_at q) front) reply s step
     (at_place q lines (Some new) (Bytes (name_at q) front) reply (λ a. record a { took = a.took ++ front }) (λ p a. refl) within own)
   where
-    lost : (a : Account) → Carries a old → Carries (record a { took = a.took ++ front }) (record old { came = came; broken = true; finished = new.finished })
+    lost : (a : ConnectionAccount) → Carries a old → Carries (record a { took = a.took ++ front }) (record old { came = came; broken = true; finished = new.finished })
     lost a c = record { is_open = c.is_open; came = λ whole. absurd (true≢false whole); went = c.went }
 
-    own : (a : Account) → CarriesAt a (line_at q lines) → CarriesAt (record a { took = a.took ++ front }) (Some new)
+    own : (a : ConnectionAccount) → CarriesAt a (line_at q lines) → CarriesAt (record a { took = a.took ++ front }) (Some new)
     own a c = subst (λ (l : Line). Carries (record a { took = a.took ++ front }) l) (sym so) (lost a (subst (λ (l : Option Line). CarriesAt a l) is c))
 
 pub lost_served : (base h : HubState) (lines : List (Option Line)) (q : ℕ) (old new : Line) (came : Option (List ℕ)) → AreCarried base h lines
     → q < length lines → line_at q lines ≡ Some old → new ≡ record old { came = came; broken = true; finished = new.finished } → AreCarried base h (set lines q (Some new))
 lost_served base h lines q old new came s within is so = line_served base h lines q (Some new) s within own
   where
-    lost : (a : Account) → Carries a old → Carries a (record old { came = came; broken = true; finished = new.finished })
+    lost : (a : ConnectionAccount) → Carries a old → Carries a (record old { came = came; broken = true; finished = new.finished })
     lost a c = record { is_open = c.is_open; came = λ whole. absurd (true≢false whole); went = c.went }
 
-    own : (a : Account) → CarriesAt a (line_at q lines) → CarriesAt a (Some new)
+    own : (a : ConnectionAccount) → CarriesAt a (line_at q lines) → CarriesAt a (Some new)
     own a c = subst (λ (l : Line). Carries a l) (sym so) (lost a (subst (λ (l : Option Line). CarriesAt a l) is c))
 
 pub same_served : (base h : HubState) (lines : List (Option Line)) (q : ℕ) (old new : Line) → AreCarried base h lines → q < length lines
@@ -212,10 +212,10 @@ same_served base h lines q old new s within is came so = line_served base h line
     alike : new ≡ record old { finished = new.finished }
     alike = so ∙ ap (λ (c : Option (List ℕ)). record old { came = c; finished = new.finished }) came
 
-    still : (a : Account) → Carries a old → Carries a (record old { finished = new.finished })
+    still : (a : ConnectionAccount) → Carries a old → Carries a (record old { finished = new.finished })
     still a c = record { is_open = c.is_open; came = c.came; went = c.went }
 
-    own : (a : Account) → CarriesAt a (line_at q lines) → CarriesAt a (Some new)
+    own : (a : ConnectionAccount) → CarriesAt a (line_at q lines) → CarriesAt a (Some new)
     own a c = subst (λ (l : Line). Carries a l) (sym alike) (still a (subst (λ (l : Option Line). CarriesAt a l) is c))
 
 pub flush_served : (base h : HubState) (lines : List (Option Line)) (q : ℕ) (old new : Line) → AreCarried base h lines → q < length lines
@@ -223,18 +223,18 @@ pub flush_served : (base h : HubState) (lines : List (Option Line)) (q : ℕ) (o
     → AreCarried base h (set lines q (Some new))
 flush_served base h lines q old new s within is sends so = line_served base h lines q (Some new) s within own
   where
-    parts : (a : Account) (bytes : List ℕ) → bytes ++ old.kept ≡ a.collected → (bytes ++ sends.0) ++ new.kept ≡ a.collected
+    parts : (a : ConnectionAccount) (bytes : List ℕ) → bytes ++ old.kept ≡ a.collected → (bytes ++ sends.0) ++ new.kept ≡ a.collected
     parts a bytes e = append_assoc bytes sends.0 new.kept ∙ (ap (λ (b : List ℕ). bytes ++ b) (sym sends.1) ∙ e)
 
-    went : (a : Account) → Carries a old → IfSome new.went (λ bytes. bytes ++ new.kept ≡ a.collected)
+    went : (a : ConnectionAccount) → Carries a old → IfSome new.went (λ bytes. bytes ++ new.kept ≡ a.collected)
     went a c =
         subst (λ (o : Option (List ℕ)). IfSome o (λ bytes. bytes ++ new.kept ≡ a.collected)) (sym sends.2)
         (known_more old.went sends.0 (λ bytes. bytes ++ old.kept ≡ a.collected) (λ bytes. bytes ++ new.kept ≡ a.collected) (parts a) c.went)
 
-    sent : (a : Account) → Carries a old → Carries a (record old { went = new.went; kept = new.kept; full = new.full; finished = new.finished })
+    sent : (a : ConnectionAccount) → Carries a old → Carries a (record old { went = new.went; kept = new.kept; full = new.full; finished = new.finished })
     sent a c = record { is_open = c.is_open; came = c.came; went = went a c }
 
-    own : (a : Account) → CarriesAt a (line_at q lines) → CarriesAt a (Some new)
+    own : (a : ConnectionAccount) → CarriesAt a (line_at q lines) → CarriesAt a (Some new)
     own a c = subst (λ (l : Line). Carries a l) (sym so) (sent a (subst (λ (l : Option Line). CarriesAt a l) is c))
 
 pub collect_served : (base h g : HubState) (lines : List (Option Line)) (q : ℕ) (old new : Line) (reply : HubReply) → AreCarried base h lines
@@ -244,18 +244,18 @@ collect_served base h g lines q old new reply s step within is empty so =
     served_step base h g lines (set lines q (Some new)) (Collect (name_at q)) reply s step
     (at_place q lines (Some new) (Collect (name_at q)) reply (λ a. record a { collected = a.collected ++ reply.output }) (λ p a. refl) within own)
   where
-    parts : (a : Account) (bytes : List ℕ) → bytes ++ old.kept ≡ a.collected → bytes ++ reply.output ≡ a.collected ++ reply.output
+    parts : (a : ConnectionAccount) (bytes : List ℕ) → bytes ++ old.kept ≡ a.collected → bytes ++ reply.output ≡ a.collected ++ reply.output
     parts a bytes e =
         ap (λ (b : List ℕ). b ++ reply.output) (sym (append-nil bytes) ∙ (ap (λ (b : List ℕ). bytes ++ b) (sym empty) ∙ e))
 
-    collected : (a : Account) → Carries a old → Carries (record a { collected = a.collected ++ reply.output }) (record old { kept = reply.output })
+    collected : (a : ConnectionAccount) → Carries a old → Carries (record a { collected = a.collected ++ reply.output }) (record old { kept = reply.output })
     collected a c = record {
       is_open = c.is_open;
       came = c.came;
       went = known_so old.went (λ bytes. bytes ++ old.kept ≡ a.collected) (λ bytes. bytes ++ reply.output ≡ a.collected ++ reply.output) (parts a) c.went;
     }
 
-    own : (a : Account) → CarriesAt a (line_at q lines) → CarriesAt (record a { collected = a.collected ++ reply.output }) (Some new)
+    own : (a : ConnectionAccount) → CarriesAt a (line_at q lines) → CarriesAt (record a { collected = a.collected ++ reply.output }) (Some new)
     own a c =
         subst (λ (l : Line). Carries (record a { collected = a.collected ++ reply.output }) l) (sym so)
         (collected a (subst (λ (l : Option Line). CarriesAt a l) is c))

@@ -2,7 +2,8 @@
 use Rattle.std.proofs.Common.{◌≡◌, ◌<◌, ◌+◌, ◌++◌, ℕ, zero, suc, Bool, true, false, cond, List, [], ◌∷◌, length, length-set, set, get_or, Option, Some, None, is_some, true≢false, refl, sym, ap, ap₂, ◌∙◌, arith}
 use Rattle.std.proofs.lemmas.List.Sums.{count_by-le-length, sum_by-cons, sum_by-set}
 use Rattle.mq_loop.specs.Accounts.{Line}
-use Rattle.mq_loop.specs.Places.{count_in, is_in}
+use Rattle.mq_loop.specs.Places.{is_in}
+use Rattle.mq_loop.specs.Inside.Places.{count_in}
 use Rattle.mq_loop.specs.Rounds.{connections_in, exists_at, output_at}
 
 pub in_within : (m : List Bool) (p : ℕ) → is_in p m ≡ true → p < length m

@@ -19,11 +19,14 @@ use Rattle.mq_route.specs.Runs.{Episode, Follows, acts_of, is_on}
 use Rattle.mq_route.specs.Step.{HubStep}
 use Rattle.mq_loop.specs.Accounts.{IsServed, Line, ServedState, name_at, served_state}
 use Rattle.mq_loop.specs.Calls.{Call}
-use Rattle.mq_loop.specs.Places.{count_in, is_in}
+use Rattle.mq_loop.specs.Places.{is_in}
+use Rattle.mq_loop.specs.Inside.Places.{count_in}
 use Rattle.mq_loop.specs.declared.broker.SnapshotNote.{SnapshotNote}
 use Rattle.mq_loop.specs.declared.connection.Flushed.TheVariants.{Blocked}
-use Rattle.mq_loop.specs.Rounds.{AllIn, AreBounded, AreEnded, AreNotedAt, AtOutputs, IsEmpty, IsFlushed, IsNoted, IsReached, IsSame, IsSettled, IsWatched, IsWritten, IsWrittenAt, MayCollect, OthersStay, Output, OutputStays}
-use Rattle.mq_loop.specs.Rounds.{WatchedState, connections_in, ends_left, exists_at, is_copy_for, output_at, waiting_at, watched_state}
+use Rattle.mq_loop.specs.Rounds.{AllIn, AreBounded, AreNotedAt, AtOutputs, IsEmpty, IsFlushed, IsNoted, IsReached, IsSame, IsSettled, IsWatched, IsWritten, IsWrittenAt, MayCollect, OthersStay, Output, OutputStays}
+use Rattle.mq_loop.specs.Inside.Rounds.{AreEnded}
+use Rattle.mq_loop.specs.Rounds.{WatchedState, connections_in, exists_at, is_copy_for, output_at, waiting_at, watched_state}
+use Rattle.mq_loop.specs.Inside.Rounds.{ends_left}
 use Rattle.mq_loop.proofs.CarriedBytes.{follows_last}
 use Rattle.mq_loop.proofs.Counts.{as_many, in_within}
 use Rattle.mq_loop.proofs.Names.{not_known, one_conn, same_conn-itself, unknown_shut}

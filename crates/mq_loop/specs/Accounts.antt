@@ -12,19 +12,19 @@ use Rattle.mq_loop.specs.Calls.{Call}
 
 -- The account of a connection in steps: whether it was opened and has not ended; and since it was
 -- opened, the bytes that its steps took, and those that its `Collect`s returned.
-pub record Account : Type 0 where
+pub record ConnectionAccount : Type 0 where
   pub is_open : Bool
   pub took : List ℕ
   pub collected : List ℕ
 
-abbrev pub unopened : Account
+abbrev pub unopened : ConnectionAccount
 unopened = record { is_open = false; took = []; collected = [] }
 
-abbrev pub opened : Account
+abbrev pub opened : ConnectionAccount
 opened = record { is_open = true; took = []; collected = [] }
 
 -- a step continues the account of a connection
-abbrev pub account_step : Conn → HubEvent → HubReply → Account → Account
+abbrev pub account_step : Conn → HubEvent → HubReply → ConnectionAccount → ConnectionAccount
 account_step conn (Opened other) reply account = if same_conn other conn then opened else account
 account_step conn (Bytes other piece) reply account =
     if same_conn other conn then record account { took = account.took ++ piece } else account
@@ -34,12 +34,12 @@ account_step conn (Collect other) reply account =
     if same_conn other conn then record account { collected = account.collected ++ reply.output } else account
 
 -- the account of a connection after further steps
-abbrev pub account_from : Conn → List Episode → Account → Account
+abbrev pub account_from : Conn → List Episode → ConnectionAccount → ConnectionAccount
 account_from conn [] account = account
 account_from conn (episode ∷ episodes) account =
     account_from conn episodes (account_step conn episode.event episode.reply account)
 
-abbrev pub account_of : Conn → List Episode → Account
+abbrev pub account_of : Conn → List Episode → ConnectionAccount
 account_of conn made = account_from conn made unopened
 
 -- A connection, for contracts: the bytes read from its socket and those that the socket took, if
@@ -58,13 +58,13 @@ pub record Line : Type 0 where
 -- A connection carries the bytes of its account, in order: those that were read are those that its
 -- steps took, followed by those that wait for a step, unless some are lost; those that its socket
 -- took, followed by those that are kept, are those that its `Collect`s returned.
-pub record Carries (account : Account) (line : Line) : Type 0 where
+pub record Carries (account : ConnectionAccount) (line : Line) : Type 0 where
   pub is_open : account.is_open ≡ true
   pub came : line.broken ≡ false → IfSome line.came (λ bytes. bytes ≡ account.took ++ line.unread)
   pub went : IfSome line.went (λ bytes. bytes ++ line.kept ≡ account.collected)
 
 -- a place has a connection that carries its bytes, or none that is open
-abbrev pub CarriesAt : Account → Option Line → Type 0
+abbrev pub CarriesAt : ConnectionAccount → Option Line → Type 0
 CarriesAt account None = account.is_open ≡ false
 CarriesAt account (Some line) = Carries account line
 

@@ -86,13 +86,6 @@ pub record IsRound (ages : Ages) (old new : Option (List Call)) : Type 0 where
   -- the bytes of an older connection are handled before those of a newer one
   pub oldest_first : IsAscending (ages_read ages made)
 
--- A part of a round that handles no bytes.
-pub record Quietly (old new : Option (List Call)) : Type 0 where
-  pub made : List Call
-  pub calls : new ≡ with_calls old made
-  pub covered : IsCovered false made
-  pub nothing : places_read made ≡ []
-
 -- Output is collected.
 pub record Collecting (old new : Option (List Call)) : Type 0 where
   pub made : List Call
@@ -105,10 +98,3 @@ pub record Reads (place : ℕ) (old new : Option (List Call)) : Type 0 where
   pub calls : new ≡ with_calls old made
   pub covered : IsCovered false made
   pub there : Each (λ other. other ≡ place) (places_read made)
-
--- Bytes of connections of one age are handled.
-pub record ReadsOf (ages : Ages) (age : ℕ) (old new : Option (List Call)) : Type 0 where
-  pub made : List Call
-  pub calls : new ≡ with_calls old made
-  pub covered : IsCovered false made
-  pub aged : Each (λ other. other ≡ age) (ages_read ages made)

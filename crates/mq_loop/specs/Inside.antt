@@ -1,1 +1,4 @@
+pub mod Calls
+pub mod Places
+pub mod Rounds
 pub mod Turns

@@ -1,14 +1,10 @@
 -- Sets of places.
 use Rattle.std.specs.Prelude.{◌≡◌, ℕ, Bool, true, false, List, nat_eq, slice_index_or}
-use Rattle.std.specs.List.{count_by, list_any}
+use Rattle.std.specs.List.{list_any}
 
 -- the place is in the set
 abbrev pub is_in : ℕ → List Bool → Bool
 is_in place flags = slice_index_or flags place false
-
--- the number of places in the set
-abbrev pub count_in : List Bool → ℕ
-count_in flags = count_by (λ flag. flag) flags
 
 -- the list names each place of the set
 abbrev pub AreListed : List Bool → List ℕ → Type 0

@@ -1,5 +1,5 @@
 -- The end of a round: which connections have pending output, and which must be ended (4.6).
-use Rattle.std.specs.Prelude.{◌≡◌, ◌⊎◌, ℕ, suc, ◌+◌, ◌*◌, ◌<◌, ◌≤◌, ◌==◌, ◌||◌, Bool, true, false, not, List, [], ◌++◌, length, Option, Some, None, IfSome, is_some}
+use Rattle.std.specs.Prelude.{◌≡◌, ◌⊎◌, ℕ, ◌+◌, ◌<◌, ◌≤◌, ◌==◌, ◌||◌, Bool, true, false, not, List, [], ◌++◌, length, Option, Some, None, IfSome, is_some}
 use Rattle.std.specs.List.{count_by, list_any}
 use Rattle.mq_route.specs.declared.act.Act.{Act}
 use Rattle.mq_route.specs.declared.act.Act.TheVariants as acts
@@ -19,7 +19,7 @@ use Rattle.mq_loop.specs.declared.served.Heard.{Heard}
 use Rattle.mq_loop.specs.declared.served.Heard.TheVariants.{Step, Nothing, Over}
 use Rattle.mq_loop.specs.Accounts.{Line, ServedState, line_at, name_at, served_state, without_notes}
 use Rattle.mq_loop.specs.Calls.{Ages, Call, age_at}
-use Rattle.mq_loop.specs.Places.{count_in, is_in}
+use Rattle.mq_loop.specs.Places.{is_in}
 
 -- ---- brokers
 
@@ -168,10 +168,6 @@ AreNotedAt place log place_of over =
 abbrev pub AllIn : List Bool → List Bool → Type 0
 AllIn old new = (place : ℕ) → is_in place old ≡ true → is_in place new ≡ true
 
--- the second set has the places of the first, of at least as many
-abbrev pub IsRoomier : List Bool → List Bool → Type 0
-IsRoomier old new = (length old ≤ length new) × AllIn old new
-
 -- The notes after further acts.
 pub record IsNoted (log : List Act) (place_of : ℕ → Option ℕ) (marked over : List Bool) (later_place_of : ℕ → Option ℕ) (later_marked later_over : List Bool) : Type 0 where
   pub marked_places : length later_marked ≡ length marked
@@ -231,15 +227,6 @@ watched_state served most_owed marked over failed =
 -- no place is in the set
 abbrev pub IsEmpty : List Bool → Type 0
 IsEmpty flags = (place : ℕ) → is_in place flags ≡ false
-
--- no connection is over, unless an allocation failed
-abbrev pub AreEnded : WatchedState → Type 0
-AreEnded watched = IsEmpty watched.over ⊎ (watched.failed ≡ true)
-
--- the maximum number of remaining ends: a bound on the connections and on the places that are
--- over
-abbrev pub ends_left : WatchedState → ℕ
-ends_left watched = connections_in watched.served.lines * suc (length watched.over) + count_in watched.over
 
 -- the connection at a place must be ended, and an allocation for its end failed
 abbrev pub IsLeft : ℕ → WatchedState → Type 0

@@ -4,7 +4,8 @@ use Rattle.std.specs.List.{AllZip}
 use Rattle.std.proofs.lemmas.List.{length-append}
 use Rattle.mq_schedule.specs.Schedule.{words_of}
 use Rattle.mq_loopback.specs.declared.client.Client.{Client}
-use Rattle.mq_loopback.specs.File.{AreApart, AreClients, IsFresh, Joins, Says}
+use Rattle.mq_loopback.specs.File.{AreApart, AreClients, IsFresh, Says}
+use Rattle.mq_loopback.specs.Inside.File.{Joins}
 
 abbrev pub SaidBy : Client → List ℕ → Type 0
 SaidBy c line = Says c (words_of line)

@@ -9,7 +9,8 @@ use Rattle.mq_loopback.specs.declared.client.Client.{Client}
 use Rattle.mq_loopback.specs.declared.read.ClientsFault.{ClientsFault}
 use Rattle.mq_loopback.specs.declared.read.ClientsFault.TheVariants.{Line}
 use Rattle.mq_schedule.specs.Schedule.{bytes_word}
-use Rattle.mq_loopback.specs.File.{AreClients, IsBadLine, IsPayload, Joins}
+use Rattle.mq_loopback.specs.File.{AreClients, IsBadLine, IsPayload}
+use Rattle.mq_loopback.specs.Inside.File.{Joins}
 use Rattle.mq_loopback.proofs.Joining.{joins_more, last_of, same_length}
 use Rattle.mq_loopback.proofs.Unique.{one_list}
 

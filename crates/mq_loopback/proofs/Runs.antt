@@ -15,7 +15,8 @@ use Rattle.mq_end.specs.End.{is_up}
 use Rattle.mq_end.specs.Publishing.{ClientState}
 use Rattle.mq_client.specs.Collecting.{IsAnswered, Keeps, handed}
 use Rattle.mq_client.specs.Course.{Ask, IsIdle, Leaves, Moment, Opening, Publication, Subscription, Went}
-use Rattle.mq_client.specs.Publishing.{AskedAll, AskedFirst, AskedMore}
+use Rattle.mq_client.specs.Publishing.{AskedAll}
+use Rattle.mq_client.specs.Inside.Publishing.{AskedFirst, AskedMore}
 use Rattle.mq_client.proofs.Collected.{keeps_told}
 use Rattle.mq_client.proofs.Published.{more_one}
 use Rattle.mq_client.proofs.Courses.{went_none, went_on, went_still, went_then}
@@ -28,7 +29,8 @@ use Rattle.mq_loopback.specs.declared.client_threads.ClientStart.{ClientStart}
 use Rattle.mq_loopback.specs.declared.rig.RunError.{RunError}
 use Rattle.mq_loopback.specs.declared.rig.RunResult.{RunResult}
 use Rattle.mq_loopback.specs.Program.{IsPlayed}
-use Rattle.mq_loopback.specs.Clients.{Collected, IsClientRun, IsNewClient, IsRoleDone, Published, Receives, Subscribed, asks_of, is_collector, message_of, request_of}
+use Rattle.mq_loopback.specs.Clients.{Collected, IsClientRun, IsNewClient, IsRoleDone, Published, Receives, Subscribed, asks_of, message_of, request_of}
+use Rattle.mq_loopback.specs.Inside.Clients.{is_collector}
 
 -- ---- collectors
 

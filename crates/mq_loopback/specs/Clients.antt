@@ -1,5 +1,5 @@
 -- The runs of the clients of a loopback file over their connections.
-use Rattle.std.specs.Prelude.{◌≡◌, ◌≤◌, ℕ, Bool, None, false, true, List, [], ◌∷◌, ◌++◌, length, map}
+use Rattle.std.specs.Prelude.{◌≡◌, ◌≤◌, ℕ, None, false, true, List, [], ◌∷◌, ◌++◌, length, map}
 use Rattle.std.specs.List.{flat_map}
 use Rattle.mq_decode.specs.Limits.{strict}
 use Rattle.mq_packet.specs.declared.message.Message.{Message}
@@ -87,10 +87,3 @@ abbrev pub IsClientRun : Client → List Message → Type 0
 IsClientRun client messages =
     (before : Moment) × (after : Moment) × IsNewClient client.name before.client
     × IsRoleDone client.role before after messages
-
-abbrev pub is_collector_role : Role → Bool
-is_collector_role (roles.Collector collector) = true
-is_collector_role (roles.Publisher publisher) = false
-
-abbrev pub is_collector : Client → Bool
-is_collector client = is_collector_role client.role

@@ -72,13 +72,6 @@ abbrev pub AreApart : List Client → Type 0
 AreApart [] = ⊤
 AreApart (client ∷ clients) = IsFresh client.name clients × AreApart clients
 
--- a line says a client that may come after these: there are fewer than 64, and none of them has its
--- name
-pub record Joins (clients : List Client) (client : Client) (line : List ℕ) : Type 0 where
-  pub room : length clients < 64
-  pub fresh : IsFresh client.name clients
-  pub says : Says client (words_of line)
-
 -- each line says a client; no two have the same name, and there are at most 64
 pub record AreClients (clients : List Client) (lines : List (List ℕ)) : Type 0 where
   pub said : AllZip (λ c line. Says c (words_of line)) clients lines

@@ -1,2 +1,4 @@
 -- Definitions that only the proofs of this crate need: no public contract cites them.
 pub mod Barrier
+pub mod Clients
+pub mod File

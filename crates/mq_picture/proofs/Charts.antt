@@ -5,8 +5,8 @@ use Rattle.std.proofs.lemmas.List.{append-nil, flat_map_more}
 use Rattle.std.proofs.lemmas.List.Sums.{sum_by_push}
 use Rattle.mq_world.specs.declared.side.Side.{Side}
 use Rattle.mq_world.specs.declared.side.Side.TheVariants.{Client, Server}
-use Rattle.mq_picture.specs.declared.entry.Entry.{Entry}
-use Rattle.mq_picture.specs.declared.entry.Entry.TheVariants.{Arrived}
+use Rattle.mq_picture.specs.declared.entry.RecordEntry.{RecordEntry}
+use Rattle.mq_picture.specs.declared.entry.RecordEntry.TheVariants.{Arrived}
 use Rattle.mq_picture.specs.declared.rows.Chart.{Chart}
 use Rattle.mq_picture.specs.declared.rows.Flying.{Flying}
 use Rattle.mq_picture.specs.declared.rows.Lane.{Lane}
@@ -17,14 +17,14 @@ use Rattle.mq_picture.specs.Rows.{Draws, brought_by, brought_to, drawn_to, noted
 -- ---- one lane changes
 
 -- What a record has, except that more bytes arrived at a side.
-pub record SameBut (client server : ℕ) (history new : List Entry) : Type 0 where
+pub record SameBut (client server : ℕ) (history new : List RecordEntry) : Type 0 where
   pub to_client : sent_to Client new ≡ sent_to Client history
   pub to_server : sent_to Server new ≡ sent_to Server history
   pub notes : flat_map noted_by new ≡ flat_map noted_by history
   pub at_client : brought_to Client new ≡ brought_to Client history + client
   pub at_server : brought_to Server new ≡ brought_to Server history + server
 
-client_moved : (history new : List Entry) (count : ℕ) (before after : Chart) → SameBut count 0 history new → after.to_server ≡ before.to_server
+client_moved : (history new : List RecordEntry) (count : ℕ) (before after : Chart) → SameBut count 0 history new → after.to_server ≡ before.to_server
     → Ends count before.to_client after.to_client before.rows.items after.rows.items → IsChart history before → IsChart new after
 client_moved history new count before after same kept e h =
     let old = before.rows.items in
@@ -44,7 +44,7 @@ client_moved history new count before after same kept e h =
       at_server = omega (arith, others, arrived, h.at_server, same.at_server);
     }
 
-server_moved : (history new : List Entry) (count : ℕ) (before after : Chart) → SameBut 0 count history new → after.to_client ≡ before.to_client
+server_moved : (history new : List RecordEntry) (count : ℕ) (before after : Chart) → SameBut 0 count history new → after.to_client ≡ before.to_client
     → Ends count before.to_server after.to_server before.rows.items after.rows.items → IsChart history before → IsChart new after
 server_moved history new count before after same kept e h =
     let old = before.rows.items in
@@ -67,10 +67,10 @@ server_moved history new count before after same kept e h =
 -- ---- one entry more
 
 -- an entry more that has none of something
-none_more : {A : Type 0} (f : Entry → List A) (history : List Entry) (entry : Entry) → f entry ≡ [] → flat_map f (history ++ entry ∷ []) ≡ flat_map f history
+none_more : {A : Type 0} (f : RecordEntry → List A) (history : List RecordEntry) (entry : RecordEntry) → f entry ≡ [] → flat_map f (history ++ entry ∷ []) ≡ flat_map f history
 none_more f history entry none = sym (flat_map_more f [] history entry) ∙ ap (λ t. flat_map f history ++ t) none ∙ append-nil (flat_map f history)
 
-arrived_client : (history : List Entry) (count : ℕ) (lost : Bool) → SameBut count 0 history (history ++ Arrived Client count lost ∷ [])
+arrived_client : (history : List RecordEntry) (count : ℕ) (lost : Bool) → SameBut count 0 history (history ++ Arrived Client count lost ∷ [])
 arrived_client history count lost =
     let entry = Arrived Client count lost in
     record {
@@ -81,7 +81,7 @@ arrived_client history count lost =
       at_server = sum_by_push (brought_by Server) history entry;
     }
 
-arrived_server : (history : List Entry) (count : ℕ) (lost : Bool) → SameBut 0 count history (history ++ Arrived Server count lost ∷ [])
+arrived_server : (history : List RecordEntry) (count : ℕ) (lost : Bool) → SameBut 0 count history (history ++ Arrived Server count lost ∷ [])
 arrived_server history count lost =
     let entry = Arrived Server count lost in
     record {
@@ -92,30 +92,30 @@ arrived_server history count lost =
       at_server = sum_by_push (brought_by Server) history entry;
     }
 
-same_record : (history : List Entry) → SameBut 0 0 history history
+same_record : (history : List RecordEntry) → SameBut 0 0 history history
 same_record history = record { to_client = refl; to_server = refl; notes = refl; at_client = omega arith; at_server = omega arith }
 
 -- ---- bytes arrive
 
 pub client_arrives : {A E : Type 0} (r : Result A E) (count : ℕ) (lost : Bool) (before after : Chart) → after.to_server ≡ before.to_server → OnOk r (Ends count before.to_client after.to_client before.rows.items after.rows.items)
-    → (history : List Entry) → IsChart history before → OnOk r (IsChart (history ++ Arrived Client count lost ∷ []) after)
+    → (history : List RecordEntry) → IsChart history before → OnOk r (IsChart (history ++ Arrived Client count lost ∷ []) after)
 client_arrives (Ok x) count lost before after kept e history h = client_moved history (history ++ Arrived Client count lost ∷ []) count before after (arrived_client history count lost) kept e h
 client_arrives (Err x) count lost before after kept e history h = tt
 
 pub server_arrives : {A E : Type 0} (r : Result A E) (count : ℕ) (lost : Bool) (before after : Chart) → after.to_client ≡ before.to_client → OnOk r (Ends count before.to_server after.to_server before.rows.items after.rows.items)
-    → (history : List Entry) → IsChart history before → OnOk r (IsChart (history ++ Arrived Server count lost ∷ []) after)
+    → (history : List RecordEntry) → IsChart history before → OnOk r (IsChart (history ++ Arrived Server count lost ∷ []) after)
 server_arrives (Ok x) count lost before after kept e history h = server_moved history (history ++ Arrived Server count lost ∷ []) count before after (arrived_server history count lost) kept e h
 server_arrives (Err x) count lost before after kept e history h = tt
 
 -- ---- all packets to a side become arrows
 
 pub client_ends : {A E : Type 0} (r : Result A E) (before after : Chart) → after.to_server ≡ before.to_server → OnOk r (Ends 0 before.to_client after.to_client before.rows.items after.rows.items)
-    → (history : List Entry) → IsChart history before → OnOk r (IsChart history after)
+    → (history : List RecordEntry) → IsChart history before → OnOk r (IsChart history after)
 client_ends (Ok x) before after kept e history h = client_moved history history 0 before after (same_record history) kept e h
 client_ends (Err x) before after kept e history h = tt
 
 pub server_ends : {A E : Type 0} (r : Result A E) (before after : Chart) → after.to_client ≡ before.to_client → OnOk r (Ends 0 before.to_server after.to_server before.rows.items after.rows.items)
-    → (history : List Entry) → IsChart history before → OnOk r (IsChart history after)
+    → (history : List RecordEntry) → IsChart history before → OnOk r (IsChart history after)
 server_ends (Ok x) before after kept e history h = server_moved history history 0 before after (same_record history) kept e h
 server_ends (Err x) before after kept e history h = tt
 
@@ -132,7 +132,7 @@ same_wait (Err x) lane = tt
 -- ---- the diagram
 
 -- no packet is left
-pub chart_draws : (history : List Entry) (chart : Chart) → IsChart history chart → waiting chart.to_client ≡ [] → waiting chart.to_server ≡ [] → Draws history chart.rows.items
+pub chart_draws : (history : List RecordEntry) (chart : Chart) → IsChart history chart → waiting chart.to_client ≡ [] → waiting chart.to_server ≡ [] → Draws history chart.rows.items
 chart_draws history chart h client server =
     let rows = chart.rows.items in
     record {

@@ -3,7 +3,7 @@ use Rattle.std.specs.Prelude.{◌≡◌, ℕ, ◌+◌, Bool, true, false, List, 
 use Rattle.mq_world.specs.declared.side.Side.{Side}
 use Rattle.mq_world.specs.declared.side.Side.TheVariants.{Client, Server}
 use Rattle.mq_schedule.specs.declared.schedule.Schedule.{Schedule}
-use Rattle.mq_picture.specs.declared.entry.Entry.{Entry}
+use Rattle.mq_picture.specs.declared.entry.RecordEntry.{RecordEntry}
 use Rattle.mq_picture.specs.declared.entry.Note.{Note}
 use Rattle.mq_picture.specs.declared.entry.Note.TheVariants as notes
 use Rattle.mq_picture.specs.declared.rows.Arrow.{Arrow}
@@ -110,7 +110,7 @@ pub record IsImage (rows : List Row) (text : List ℕ) : Type 0 where
 
 -- The image of the diagram of a record of this schedule.
 pub record IsPicture (schedule : Schedule) (text : List ℕ) : Type 0 where
-  pub history : List Entry
+  pub history : List RecordEntry
   pub recorded : IsRecord schedule history
   pub rows : List Row
   pub draws : Draws history rows

@@ -1,4 +1,4 @@
--- What the source files of this crate cite. It declares nothing itself.
+-- The names that the source files of this crate cite. It declares none of its own.
 pub use Rattle.std.specs.Fmt.{DisplaysOnOk}
 pub use Rattle.std.specs.Int.NonZero.{non_zero_u16_get}
 pub use Rattle.std.specs.Io.KnownBytes.{Appends}
@@ -17,5 +17,5 @@ pub use Rattle.mq_picture.specs.Inside.Summaries.{delivery_dup, delivery_id, kin
 pub use Rattle.mq_picture.specs.Records.{IsRecord, anew_entries, answer_entries, closed_entries, delivery_entries, dropped_entries, happening_entries, left_entries, opening_entries, published_entries, settling_entries, ticked_entries, unsent}
 pub use Rattle.mq_picture.specs.Rows.{Draws, reaches}
 pub use Rattle.mq_picture.specs.Texts.{EscapeLaw, accepted_text, arrow_text, delivered_text, dots, dup_text, fate_text, id_text, kind_text, note_text, short_payload, short_topic, summary_text, xml_byte, xml_text}
-pub use Rattle.mq_picture.specs.declared.entry.Entry.TheVariants.{Arrived, Cleared, Noted}
+pub use Rattle.mq_picture.specs.declared.entry.RecordEntry.TheVariants.{Arrived, Cleared, Noted}
 pub use Rattle.mq_picture.specs.declared.picture.PictureFault.TheVariants.{Io, Memory}

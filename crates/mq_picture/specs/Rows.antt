@@ -3,8 +3,8 @@ use Rattle.std.specs.Prelude.{◌≡◌, ℕ, ◌≤◌, Bool, true, false, if�
 use Rattle.std.specs.List.{flat_map, sum_by}
 use Rattle.mq_world.specs.declared.side.Side.{Side}
 use Rattle.mq_world.specs.declared.side.Side.TheVariants.{Client, Server}
-use Rattle.mq_picture.specs.declared.entry.Entry.{Entry}
-use Rattle.mq_picture.specs.declared.entry.Entry.TheVariants as entries
+use Rattle.mq_picture.specs.declared.entry.RecordEntry.{RecordEntry}
+use Rattle.mq_picture.specs.declared.entry.RecordEntry.TheVariants as entries
 use Rattle.mq_picture.specs.declared.entry.Note.{Note}
 use Rattle.mq_picture.specs.declared.rows.Fate.{Fate}
 use Rattle.mq_picture.specs.declared.rows.Fate.TheVariants as fates
@@ -21,11 +21,11 @@ same_side Server Client = false
 -- ---- Packets
 
 -- The packets that are sent to a side, in order.
-abbrev pub sent_by : Side → Entry → List Summary
+abbrev pub sent_by : Side → RecordEntry → List Summary
 sent_by side (entries.Sent to packet) = if same_side to side then packet ∷ [] else []
 sent_by side entry = []
 
-abbrev pub sent_to : Side → List Entry → List Summary
+abbrev pub sent_to : Side → List RecordEntry → List Summary
 sent_to side history = flat_map (sent_by side) history
 
 -- The packets of the arrows to a side, from the top.
@@ -39,11 +39,11 @@ drawn_to side rows = flat_map (drawn_by side) rows
 -- ---- Bytes
 
 -- The number of bytes that arrive at a side.
-abbrev pub brought_by : Side → Entry → ℕ
+abbrev pub brought_by : Side → RecordEntry → ℕ
 brought_by side (entries.Arrived to count lost) = if same_side to side then count else 0
 brought_by side entry = 0
 
-abbrev pub brought_to : Side → List Entry → ℕ
+abbrev pub brought_to : Side → List RecordEntry → ℕ
 brought_to side history = sum_by (brought_by side) history
 
 -- The number of bytes that arrived, by the arrows to a side.
@@ -56,7 +56,7 @@ shown_to side rows = sum_by (shown_bytes side) rows
 
 -- ---- Notes
 
-abbrev pub noted_by : Entry → List (Side × Note)
+abbrev pub noted_by : RecordEntry → List (Side × Note)
 noted_by (entries.Noted side note) = (side, note) ∷ []
 noted_by entry = []
 
@@ -80,7 +80,7 @@ IsFair (drawn.Note side note) = Unit {0}
 
 -- The diagram of a record: each packet is one arrow, and each event of a side one note, in order.
 -- No arrow shows bytes that did not arrive.
-pub record Draws (history : List Entry) (rows : List Row) : Type 0 where
+pub record Draws (history : List RecordEntry) (rows : List Row) : Type 0 where
   pub to_client : drawn_to Client rows ≡ sent_to Client history
   pub to_server : drawn_to Server rows ≡ sent_to Server history
   pub notes : flat_map shown_by rows ≡ flat_map noted_by history

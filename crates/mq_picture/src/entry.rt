@@ -28,7 +28,7 @@ pub enum Note {
 
 /// An event of a replay.
 #[derive(Debug, Drop)]
-pub enum Entry {
+pub enum RecordEntry {
     /// A packet is sent to a side: it is the last one in flight to that side.
     Sent(Side, Summary),
     /// The oldest bytes in flight to a side arrive.

@@ -16,7 +16,7 @@ mod summary;
 mod svg;
 mod texts;
 
-pub use crate::entry::{Entry, Note};
+pub use crate::entry::{Note, RecordEntry};
 pub use crate::picture::{PictureFault, write_picture};
 pub use crate::record::record_of;
 pub use crate::rows::{Arrow, Fate, Row, rows_of};

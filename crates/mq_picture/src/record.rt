@@ -3,17 +3,17 @@
 ghost use Rattle.std.specs.Prelude.{◌≡◌, ◌++◌, ◌∷◌, [], IfOk, OnOk, length};
 ghost use Rattle.mq_picture.specs.Prelude.{flat_map, non_zero_u16_get, Answer, Client, IsNew, number_of, StepDoes, Arrived, Cleared, Noted, Records, IsRecord, anew_entries, answer_entries, closed_entries, delivery_entries, dropped_entries, happening_entries, left_entries, opening_entries, published_entries, settling_entries, ticked_entries, unsent};
 
-use crate::entry::{Entry, Note};
+use crate::entry::{Note, RecordEntry};
 use crate::summary::summary_of;
 use mq_decode::{DecodeError, Decoder, Limits};
 use mq_end::{CloseReason, Happening, PublishRefusal};
 use mq_packet::PacketId;
 use mq_schedule::{Schedule, Step};
-use mq_world::{Answer, Delivery, Opening, Settling, Side, World};
+use mq_world::{Answer, DeliveredBytes, Opening, Settling, Side, World};
 use std::alloc::{AllocError, Global};
 
 // The entries that were recorded.
-type Entries = Vec<Entry>;
+type Entries = Vec<RecordEntry>;
 
 // The bytes in flight to a side that are recorded: their number, and a decoder that has read them.
 #[derive(Drop)]
@@ -41,7 +41,7 @@ impl Wire {
             return Err(AllocError);
         }
         for packet in &packets {
-            entries.push(Entry::Sent(self.to, summary_of(packet)))?;
+            entries.push(RecordEntry::Sent(self.to, summary_of(packet)))?;
         }
         Ok(())
     }
@@ -61,7 +61,7 @@ impl Wire {
     fn arrive(
         &mut self,
         alloc: Global,
-        delivery: &Delivery,
+        delivery: &DeliveredBytes,
         entries: &mut Entries,
     ) -> Result<(), AllocError>
         ensures { OnOk result (unsent entries.new.items ≡ unsent entries.old.items
@@ -72,7 +72,7 @@ impl Wire {
             self.read(alloc, new, entries)?;
         }
         self.in_flight = self.in_flight.saturating_sub(bytes.len());
-        entries.push(Entry::Arrived {
+        entries.push(RecordEntry::Arrived {
             to: delivery.side,
             count: bytes.len(),
             lost: delivery.lost,
@@ -100,7 +100,7 @@ impl Recorder {
     fn note(&mut self, side: Side, note: Note) -> Result<(), AllocError>
         ensures { OnOk result (Records self.old self.new (Noted side note ∷ [])) }
     {
-        self.entries.push(Entry::Noted(side, note))?;
+        self.entries.push(RecordEntry::Noted(side, note))?;
         Ok(())
     }
 
@@ -112,7 +112,7 @@ impl Recorder {
             Side::Client => self.to_client.clear(),
             Side::Server => self.to_server.clear(),
         }
-        self.entries.push(Entry::Cleared(to))?;
+        self.entries.push(RecordEntry::Cleared(to))?;
         Ok(())
     }
 
@@ -179,7 +179,7 @@ impl Recorder {
     }
 
     // Records the arrival of bytes.
-    fn arrived(&mut self, delivery: &Delivery) -> Result<(), AllocError>
+    fn arrived(&mut self, delivery: &DeliveredBytes) -> Result<(), AllocError>
         ensures { OnOk result (Records self.old self.new
             (Arrived delivery.now.side (length delivery.now.bytes) delivery.now.lost ∷ [])) }
     {
@@ -190,7 +190,7 @@ impl Recorder {
         }
     }
 
-    fn delivered(&mut self, delivery: &Delivery) -> Result<(), AllocError>
+    fn delivered(&mut self, delivery: &DeliveredBytes) -> Result<(), AllocError>
         ensures { OnOk result (Records self.old self.new (delivery_entries delivery.now)) }
     {
         let side = delivery.side;
@@ -199,7 +199,7 @@ impl Recorder {
         self.closed(side, delivery.progress.closed)
     }
 
-    fn all_delivered(&mut self, deliveries: &[Delivery]) -> Result<(), AllocError>
+    fn all_delivered(&mut self, deliveries: &[DeliveredBytes]) -> Result<(), AllocError>
         ensures { OnOk result (Records self.old self.new
             (flat_map delivery_entries deliveries.now)) }
     {
@@ -333,7 +333,7 @@ fn new_world(alloc: Global, schedule: &Schedule) -> Result<World, AllocError>
 }
 
 /// Runs a schedule in a new world and records what happens to its packets and at its sides.
-pub fn record_of(alloc: Global, schedule: &Schedule) -> Result<Vec<Entry>, AllocError>
+pub fn record_of(alloc: Global, schedule: &Schedule) -> Result<Vec<RecordEntry>, AllocError>
     ensures { IfOk result (λ history. IsRecord schedule.now history.items) }
 {
     let mut world = new_world(alloc, schedule)?;

@@ -3,7 +3,7 @@
 ghost use Rattle.std.specs.Prelude.{◌≡◌, ◌<◌, ◌≤◌, ◌+◌, ◌^◌, ◌++◌, ◌∷◌, [], List, drop, false, true, IfOk, IfSome, OnOk};
 ghost use Rattle.mq_picture.specs.Prelude.{Ends, FirstFits, IsChart, left_at, waiting, Draws, reaches};
 
-use crate::entry::{Entry, Note};
+use crate::entry::{Note, RecordEntry};
 use crate::summary::Summary;
 use mq_world::Side;
 use std::alloc::{AllocError, Global};
@@ -166,8 +166,8 @@ impl Chart {
 
     // Adds a packet in flight to a side.
     fn send(&mut self, to: Side, packet: Summary) -> Result<(), AllocError>
-        ensures { (history : List Entry) → IsChart history self.old
-            → OnOk result (IsChart (history ++ Entry.Sent to packet ∷ []) self.new) }
+        ensures { (history : List RecordEntry) → IsChart history self.old
+            → OnOk result (IsChart (history ++ RecordEntry.Sent to packet ∷ []) self.new) }
     {
         let sent = self.rows.len();
         let flying = Flying { packet, sent };
@@ -180,8 +180,8 @@ impl Chart {
 
     // Brings the oldest bytes to a side.
     fn arrive(&mut self, to: Side, count: usize, lost: bool) -> Result<(), AllocError>
-        ensures { (history : List Entry) → IsChart history self.old
-            → OnOk result (IsChart (history ++ Entry.Arrived to count lost ∷ []) self.new) }
+        ensures { (history : List RecordEntry) → IsChart history self.old
+            → OnOk result (IsChart (history ++ RecordEntry.Arrived to count lost ∷ []) self.new) }
     {
         let fate = end_of(lost);
         match to {
@@ -193,7 +193,7 @@ impl Chart {
     // Ends the way of all packets to a side before it reaches the side.
     fn end_all(&mut self, to: Side, fate: Fate) -> Result<(), AllocError>
         requires { reaches fate ≡ false }
-        ensures chart { (history : List Entry) → IsChart history self.old
+        ensures chart { (history : List RecordEntry) → IsChart history self.old
             → OnOk result (IsChart history self.new) }
         ensures client { OnOk result (waiting self.new.to_client ≡ left_at Side.Client to (waiting self.old.to_client)) }
         ensures server { OnOk result (waiting self.new.to_server ≡ left_at Side.Server to (waiting self.old.to_server)) }
@@ -205,30 +205,30 @@ impl Chart {
     }
 
     fn note(&mut self, side: Side, note: Note) -> Result<(), AllocError>
-        ensures { (history : List Entry) → IsChart history self.old
-            → OnOk result (IsChart (history ++ Entry.Noted side note ∷ []) self.new) }
+        ensures { (history : List RecordEntry) → IsChart history self.old
+            → OnOk result (IsChart (history ++ RecordEntry.Noted side note ∷ []) self.new) }
     {
         self.rows.push(Row::Note(side, note))?;
         Ok(())
     }
 
     // Draws an entry.
-    fn draw(&mut self, entry: Entry) -> Result<(), AllocError>
-        ensures { (history : List Entry) → IsChart history self.old
+    fn draw(&mut self, entry: RecordEntry) -> Result<(), AllocError>
+        ensures { (history : List RecordEntry) → IsChart history self.old
             → OnOk result (IsChart (history ++ entry ∷ []) self.new) }
     {
         match entry {
-            Entry::Sent(to, packet) => self.send(to, packet),
-            Entry::Arrived { to, count, lost } => self.arrive(to, count, lost),
-            Entry::Cleared(to) => self.clear(to),
-            Entry::Noted(side, note) => self.note(side, note),
+            RecordEntry::Sent(to, packet) => self.send(to, packet),
+            RecordEntry::Arrived { to, count, lost } => self.arrive(to, count, lost),
+            RecordEntry::Cleared(to) => self.clear(to),
+            RecordEntry::Noted(side, note) => self.note(side, note),
         }
     }
 
     // Cuts all packets in flight to a side.
     fn clear(&mut self, to: Side) -> Result<(), AllocError>
-        ensures { (history : List Entry) → IsChart history self.old
-            → OnOk result (IsChart (history ++ Entry.Cleared to ∷ []) self.new) }
+        ensures { (history : List RecordEntry) → IsChart history self.old
+            → OnOk result (IsChart (history ++ RecordEntry.Cleared to ∷ []) self.new) }
     {
         self.end_all(to, Fate::Cut)
     }
@@ -241,7 +241,7 @@ fn end_of(lost: bool) -> Fate {
 
 /// The rows of the diagram of a record, from the top: an arrow for each packet and a note for each
 /// event at a side. An arrow is in the row in which the packet's last byte arrives or is lost.
-pub fn rows_of(alloc: Global, entries: Vec<Entry>) -> Result<Vec<Row>, AllocError>
+pub fn rows_of(alloc: Global, entries: Vec<RecordEntry>) -> Result<Vec<Row>, AllocError>
     ensures { IfOk result (λ rows. Draws entries.items rows.items) }
 {
     let mut chart = Chart::new(alloc);

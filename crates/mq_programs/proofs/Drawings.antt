@@ -5,7 +5,8 @@ use Rattle.std.specs.Io.KnownBytes.{Appends, Keeps}
 use Rattle.mq_packet.specs.Lines.{Prints}
 use Rattle.mq_cli.specs.Status.{IsReplayDone}
 use Rattle.mq_cli.specs.declared.jobs.Source.{Source}
-use Rattle.mq_programs.specs.Drawing.{IsDrawRun, IsSaved}
+use Rattle.mq_programs.specs.Drawing.{IsDrawRun}
+use Rattle.mq_programs.specs.Inside.Drawing.{IsSaved}
 use Rattle.mq_programs.specs.Inputs.{input_of}
 use Rattle.std.specs.Prelude.{IfSome}
 

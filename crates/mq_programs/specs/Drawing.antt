@@ -1,27 +1,12 @@
 -- The command `replay --svg`.
-use Rattle.std.specs.Prelude.{◌≡◌, ◌⊎◌, ℕ, false, List, [], ◌++◌, Option, Some, IfSome, codes}
+use Rattle.std.specs.Prelude.{◌≡◌, ◌⊎◌, ℕ, false, List, ◌++◌, Option, Some, IfSome, codes}
 use Rattle.mq_cli.specs.Printed.{file_not_read}
 use Rattle.mq_cli.specs.Status.{IsReplayDone}
 use Rattle.mq_cli.specs.declared.jobs.Source.{Source}
-use Rattle.mq_client.specs.Disk.{Entry, Replaced, Unchanged}
-use Rattle.mq_picture.specs.Image.{IsPicture}
-use Rattle.mq_schedule.specs.declared.schedule.Schedule.{Schedule}
 use Rattle.mq_programs.specs.Inputs.{input_of}
 
 abbrev pub not_written : List ℕ
 not_written = codes "picture not written\n"
-
--- A picture of the schedule replaced the file, or the file is unchanged.
-abbrev pub IsImageSaved : Schedule → Option (List Entry) → Option (List Entry) → ℕ → List ℕ → Type 0
-IsImageSaved schedule old new status text =
-    ((image : List ℕ) × IsPicture schedule image × Replaced old new image × (status ≡ 0)
-    × (text ≡ []))
-    ⊎ (Unchanged old new × (status ≡ 1) × (text ≡ not_written))
-
--- the output for an image: nothing, or that it was not written
-abbrev pub IsSaved : ℕ → List ℕ → Type 0
-IsSaved status text =
-    ((status ≡ 0) × (text ≡ [])) ⊎ ((status ≡ 1) × (text ≡ not_written))
 
 -- The bytes are replayed. If the status is 0, the image is saved.
 abbrev pub IsReplayDrawn : List ℕ → ℕ → List ℕ → Type 0

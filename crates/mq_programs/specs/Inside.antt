@@ -1,2 +1,4 @@
 -- Definitions that only the proofs of this crate need: no public contract cites them.
+pub mod Drawing
 pub mod Journal
+pub mod Kept

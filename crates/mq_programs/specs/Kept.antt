@@ -2,10 +2,6 @@
 use Rattle.std.specs.Prelude.{◌≡◌, ◌≢◌, ◌⊎◌, ◌↔◌, ℕ, Option, Some, None}
 use Rattle.mq_cli.specs.declared.broker.Broker.{Broker}
 use Rattle.mq_cli.specs.declared.broker.DataFolder.{DataFolder}
-use Rattle.mq_cli.specs.declared.broker.Durability.{Durability}
-use Rattle.mq_cli.specs.declared.broker.Durability.TheVariants as failures
-use Rattle.mq_file.specs.declared.journal_file.Keep.{Keep}
-use Rattle.mq_file.specs.declared.journal_file.Keep.TheVariants as keeps
 use Rattle.mq_broker.specs.Configuration.{configuration}
 use Rattle.mq_broker.specs.End.{IsPacketLimit, end_status}
 use Rattle.mq_broker.specs.declared.end.BrokerEnd.{BrokerEnd}
@@ -16,10 +12,6 @@ use Rattle.mq_programs.specs.Options.{AreOptionsOf, start_status}
 use Rattle.mq_programs.specs.declared.broker.StartError.{StartError}
 use Rattle.mq_programs.specs.declared.kept.Ready.{Ready}
 use Rattle.mq_programs.specs.declared.kept.Ready.TheVariants.{Kept, Plain}
-
-abbrev pub keep_of : Durability → Keep
-keep_of failures.System = keeps.System
-keep_of failures.Disk = keeps.Disk
 
 -- A broker with these options is ready. With a folder it was recovered from there.
 abbrev pub IsReady : Option DataFolder → BrokerOptions → Ready → Type 0

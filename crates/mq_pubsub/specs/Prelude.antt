@@ -1,4 +1,4 @@
--- What the source files of this crate cite. It declares nothing itself.
+-- The names that the source files of this crate cite. It declares none of its own.
 pub use Rattle.mq_decode.specs.Limits.{strict}
 pub use Rattle.mq_end.specs.End.{blank_end}
 pub use Rattle.mq_pubsub.specs.Giving.{Gives, is_end, messages_of}

@@ -3,7 +3,8 @@ use Rattle.std.proofs.Common.{◌≡◌, ◌<◌, ◌≤◌, ◌+◌, ℕ, Bool,
 use Rattle.std.proofs.lemmas.List.{map_more, map_push, take_all}
 use Rattle.clap.specs.Words.{AddsAliases, App, Rule, Text, rule_of, with_rule}
 use Rattle.clap.specs.declared.builder.arg.Arg.{Arg}
-use Rattle.mq_pubsub_options.specs.Grammar.{named_rule_of, renamed_rule, rule_of_row, text_rule, with_rules}
+use Rattle.mq_pubsub_options.specs.Grammar.{renamed_rule, text_rule, with_rules}
+use Rattle.mq_pubsub_options.specs.Inside.Grammar.{named_rule_of, rule_of_row}
 use Rattle.mq_pubsub_options.specs.declared.grammar.Row.{Row}
 
 -- an option with another name

@@ -1,13 +1,10 @@
 -- The command lines of `mqtt pub` and `mqtt sub`: their options.
-use Rattle.std.specs.Prelude.{ℕ, ℤ, pos, true, false, List, [], ◌∷◌, Option, Some, None, codes, option_map}
+use Rattle.std.specs.Prelude.{ℕ, ℤ, pos, true, false, List, [], ◌∷◌, Option, Some, None, codes}
 use Rattle.std.specs.Int.{int_max, int_min}
 use Rattle.clap.specs.Simple.{on_top}
 use Rattle.clap.specs.Values.{signed_between}
 use Rattle.clap.specs.Words.{App, Rule, Text, new_app, new_rule, with_rule}
 use Rattle.clap.specs.declared.builder.action.ArgAction.TheVariants.{Append, Help, SetTrue}
-use Rattle.mq_pubsub_options.specs.declared.grammar.Kind.{Kind}
-use Rattle.mq_pubsub_options.specs.declared.grammar.Kind.TheVariants as kinds
-use Rattle.mq_pubsub_options.specs.declared.grammar.Row.{Row}
 
 -- an option that has these names: one with one letter, and one with more
 abbrev pub named_rule : Text → Option ℕ → Option Text → Rule
@@ -42,20 +39,6 @@ abbrev pub flag_rule : Rule → Rule
 flag_rule rule = record rule { action = Some SetTrue }
 
 -- ---- the rows of the tables
-
-abbrev pub named_rule_of : Row → Rule
-named_rule_of row = named_rule row.id.now row.short (option_map (λ name. name.now) row.long)
-
-abbrev pub rule_with : Kind → Rule → Rule
-rule_with kinds.Help rule = help_rule rule
-rule_with kinds.Text rule = text_rule rule
-rule_with (kinds.Renamed other) rule = renamed_rule other.now rule
-rule_with kinds.Texts rule = texts_rule rule
-rule_with (kinds.Number least most) rule = number_rule least most rule
-rule_with kinds.Flag rule = flag_rule rule
-
-abbrev pub rule_of_row : Row → Rule
-rule_of_row row = rule_with row.kind (named_rule_of row)
 
 -- ---- the command lines
 

@@ -65,12 +65,6 @@ abbrev pub IsTopicOf : Option Text → Option Text → Text → Type 0
 IsTopicOf (Some text) url topic = topic ≡ text
 IsTopicOf None url topic = url ≡ Some topic
 
--- the first of these that is there
-abbrev pub first_of_three : {X : Type 0} → Option X → Option X → Option X → Option X
-first_of_three (Some value) url default = Some value
-first_of_three None (Some value) default = Some value
-first_of_three None None default = default
-
 -- the will of the options, whose payload fits its field (3.1.3.3)
 pub record IsWill (given : Found) (will : WillOptions) : Type 0 where
   pub topic : first_value given (codes "WILL_TOPIC") ≡ Some will.topic
@@ -114,12 +108,6 @@ pub record IsImplied (implies : Bool) (value : Option Text) (flag : Bool) : Type
 -- the wait of an option with seconds, 0 without it
 abbrev pub IsDelay : Option Text → ℕ → Type 0
 IsDelay text milliseconds = (found : Option ℕ) × IsTime text found × (milliseconds ≡ unwrap_or found 0)
-
--- An option goes before the environment. Without `-L` there is nothing between them.
-abbrev pub IsLoginPart : Found → Text → Option Text → Option Text → Type 0
-IsLoginPart given id default part =
-    ((text : Text) → first_value given id ≡ Some text → part ≡ Some text)
-    × (first_value given (codes "URL") ≡ None → first_value given id ≡ None → part ≡ default)
 
 -- the options of both commands
 pub record IsCommon (given : Found) (common : Common) : Type 0 where

@@ -22,13 +22,15 @@ use Rattle.mq_pubsub_programs.specs.declared.fault.Fault.{Fault}
 use Rattle.mq_pubsub_programs.specs.declared.fault.Fault.TheVariants as faults
 use Rattle.mq_pubsub_programs.specs.declared.feed.Supply.{Supply}
 use Rattle.mq_pubsub_programs.specs.declared.feed.Supply.TheVariants as supplies
-use Rattle.mq_pubsub_programs.specs.Delivering.{AreMessages, AreWanted, Completes, Delivers, IsSupply, is_lines}
+use Rattle.mq_pubsub_programs.specs.Delivering.{AreMessages, AreWanted, Completes, Delivers, is_lines}
+use Rattle.mq_pubsub_programs.specs.Inside.Delivering.{IsSupply}
 use Rattle.mq_pubsub_options.specs.declared.subscribing.SubscribeWords.{SubscribeWords}
 use Rattle.mq_pubsub_runs.specs.Posting.{AllPosted, StartsWith}
 use Rattle.mq_pubsub_runs.specs.Watching.{Watched, first_inbox}
 use Rattle.mq_pubsub_programs.specs.Following.{ComesToEnd, Follows, IsRun}
 use Rattle.mq_pubsub_programs.specs.Feeding.{IsUsedUp, coming_of, coming_payloads, message_of}
-use Rattle.mq_pubsub_programs.specs.Status.{IsStatus, closed_status, error_status, fault_status, refusal_status, status_of}
+use Rattle.mq_pubsub_programs.specs.Status.{IsStatus, closed_status, error_status, refusal_status, status_of}
+use Rattle.mq_pubsub_programs.specs.Inside.Status.{fault_status}
 
 -- the lines of standard input
 lines_wanted : (kind : Payloads) → is_lines kind ≡ true → AreWanted kind []

@@ -6,9 +6,7 @@ use Rattle.mq_pubsub_options.specs.declared.publishing.Payloads.{Payloads}
 use Rattle.mq_pubsub_options.specs.declared.publishing.Payloads.TheVariants as payloads
 use Rattle.mq_pubsub_options.specs.declared.publishing.PublishWords.{PublishWords}
 use Rattle.mq_pubsub_runs.specs.Posting.{AllPosted, Posted}
-use Rattle.mq_pubsub_programs.specs.declared.feed.Supply.{Supply}
-use Rattle.mq_pubsub_programs.specs.declared.feed.Supply.TheVariants as supplies
-use Rattle.mq_pubsub_programs.specs.Feeding.{coming_payloads, message_of, rounds_of}
+use Rattle.mq_pubsub_programs.specs.Feeding.{message_of, rounds_of}
 
 -- the payloads of one round: the texts of `-m`, the bytes of a file (`-f`) or of standard input
 -- (`-s`), or one empty payload (`-n`)
@@ -31,12 +29,6 @@ pub record AreMessages (words : PublishWords) (messages : List Message) : Type 0
   pub payloads : AreWanted words.payloads wanted
   pub messages_are : is_lines words.payloads ≡ false
       → messages ≡ map (message_of words.topic words.common.qos words.retain) (rounds_of wanted words.repeat)
-
--- a supply of the payloads of the arguments
-abbrev pub IsSupply : PublishWords → Supply → Type 0
-IsSupply words (supplies.Known known) =
-    (wanted : List (List ℕ)) × AreWanted words.payloads wanted × (coming_payloads known ≡ rounds_of wanted words.repeat)
-IsSupply words (supplies.Lines input) = is_lines words.payloads ≡ true
 
 -- All messages that a source gave were published, and are sent or acknowledged.
 abbrev pub Completes : Option (List Message) → Option (List Message) → Type 0

@@ -1,5 +1,5 @@
 -- The messages that the source of `mqtt pub` gives.
-use Rattle.std.specs.Prelude.{◌≡◌, ⊤, ℕ, ◌-◌, zero, suc, Bool, true, List, [], ◌∷◌, ◌++◌, map, drop, Option, Some, None}
+use Rattle.std.specs.Prelude.{◌≡◌, ⊤, ℕ, ◌-◌, zero, suc, Bool, true, List, [], ◌++◌, map, drop, Option, Some, None}
 use Rattle.mq_topic.specs.declared.qos.Qos.{Qos}
 use Rattle.mq_packet.specs.declared.message.Message.{Message}
 use Rattle.mq_pubsub_programs.specs.declared.feed.Supply.{Supply}
@@ -17,12 +17,6 @@ rounds_of payloads (suc count) = payloads ++ rounds_of payloads count
 -- the payloads that are to come, in order
 abbrev pub coming_payloads : Known → List (List ℕ)
 coming_payloads known = drop known.index (rounds_of known.payloads.items (known.repeat - known.rounds))
-
--- the payload of an answer
-abbrev pub payloads_in : InputLine → List (List ℕ)
-payloads_in (lines.Line payload) = payload ∷ []
-payloads_in lines.Later = []
-payloads_in lines.End = []
 
 -- An answer of a list of payloads, after which these are to come: it is the end only after all.
 abbrev pub EndsWith : List (List ℕ) → InputLine → Type 0
@@ -47,22 +41,3 @@ IsRead input = (input.is_ended ≡ true) × (input.queue ≡ [])
 abbrev pub IsUsedUp : Supply → Type 0
 IsUsedUp (supplies.Known known) = coming_payloads known ≡ []
 IsUsedUp (supplies.Lines input) = IsRead input
-
--- an answer, which is the end only if no payload is left
-abbrev pub EndsSupply : Supply → InputLine → Type 0
-EndsSupply supply (lines.Line payload) = ⊤
-EndsSupply supply lines.Later = ⊤
-EndsSupply supply lines.End = IsUsedUp supply
-
--- the same for standard input
-abbrev pub EndsInput : InputLines → InputLine → Type 0
-EndsInput input (lines.Line payload) = ⊤
-EndsInput input lines.Later = ⊤
-EndsInput input lines.End = IsRead input
-
--- An answer of a supply. The payloads of standard input are not known.
-abbrev pub Supplies : Supply → Supply → InputLine → Type 0
-Supplies (supplies.Known old) (supplies.Known new) line = coming_payloads old ≡ payloads_in line ++ coming_payloads new
-Supplies (supplies.Known old) (supplies.Lines new) line = ⊥
-Supplies (supplies.Lines old) (supplies.Known new) line = ⊥
-Supplies (supplies.Lines old) (supplies.Lines new) line = ⊤

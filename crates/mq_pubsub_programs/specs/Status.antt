@@ -11,8 +11,6 @@ use Rattle.mq_pubsub.specs.declared.error.RunError.{RunError}
 use Rattle.mq_pubsub.specs.declared.error.RunError.TheVariants as errors
 use Rattle.mq_pubsub_options.specs.declared.fault.OptionFault.{OptionFault}
 use Rattle.mq_pubsub_options.specs.declared.fault.OptionFault.TheVariants as options
-use Rattle.mq_pubsub_programs.specs.declared.fault.Fault.{Fault}
-use Rattle.mq_pubsub_programs.specs.declared.fault.Fault.TheVariants as faults
 
 -- the return code of a refused CONNECT (3.2.2.3)
 abbrev pub refusal_status : RefusalCode → ℕ
@@ -42,11 +40,6 @@ status_of (Err error) = error_status error
 -- the exit statuses of both commands: 0 to 5, or 27
 abbrev pub IsStatus : ℕ → Type 0
 IsStatus status = (status ≤ 5) ⊎ (status ≡ 27)
-
--- the status of a command that stopped before its run
-abbrev pub fault_status : Fault → ℕ
-fault_status (faults.Said sentence) = 1
-fault_status faults.Memory = 3
 
 -- the arguments ask for the help
 abbrev pub IsHelp : Error → Type 0

@@ -17,7 +17,8 @@ use Rattle.mq_pubsub.specs.Giving.{Gives}
 use Rattle.mq_pubsub_runs.specs.declared.stop.Stop.{Stop}
 use Rattle.mq_pubsub_runs.specs.declared.stop.Stop.TheVariants.{Connection, Application}
 use Rattle.mq_pubsub_runs.specs.Stops.{IsBroken, IsConnection, IsErr, IsOk}
-use Rattle.mq_pubsub_runs.specs.Posting.{AllPosted, Fills, Finishes, PartPosted, Posted, Progress, ProgressUntil, PublishEnds, Publishes, Remembers, StartsWith, is_q0, unstored}
+use Rattle.mq_pubsub_runs.specs.Posting.{AllPosted, Finishes, PartPosted, Posted, Progress, Publishes, StartsWith, is_q0, unstored}
+use Rattle.mq_pubsub_runs.specs.Inside.Posting.{Fills, ProgressUntil, PublishEnds, Remembers}
 use Rattle.mq_pubsub_runs.specs.Posting.Posted.{Begins, Opens, Sends, Breaks, Hears, Continues}
 
 -- ---- what was published

@@ -17,7 +17,8 @@ use Rattle.mq_pubsub_runs.specs.declared.stop.Stop.{Stop}
 use Rattle.mq_pubsub_runs.specs.declared.stop.Stop.TheVariants.{Connection, Application}
 use Rattle.mq_pubsub_runs.specs.Posting.{StartsWith}
 use Rattle.mq_pubsub_runs.specs.Stops.{IsBroken, IsConnection, IsErr, IsOk}
-use Rattle.mq_pubsub_runs.specs.Watching.{Stays, SubscribeEnds, Unprinted, Watched, WatchedPart, WatchedUntil, forgets, requests_of}
+use Rattle.mq_pubsub_runs.specs.Watching.{Stays, Unprinted, Watched, WatchedPart, forgets, requests_of}
+use Rattle.mq_pubsub_runs.specs.Inside.Watching.{SubscribeEnds, WatchedUntil}
 use Rattle.mq_pubsub_runs.specs.Watching.Watched.{Begins, Opens, Reads, Requests, Sends, Continues, Renews}
 use Rattle.mq_pubsub_runs.proofs.Postings.{resting}
 

@@ -3,3 +3,4 @@ pub mod Posting
 pub mod Prelude
 pub mod Stops
 pub mod Watching
+pub mod Inside

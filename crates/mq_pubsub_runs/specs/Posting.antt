@@ -1,5 +1,5 @@
 -- The run of a publisher, over one connection after another.
-use Rattle.std.specs.Prelude.{◌≡◌, ⊤, ℕ, Bool, true, false, List, [], ◌∷◌, ◌++◌, map, Option, None, Result, Ok, Err, option_to_list}
+use Rattle.std.specs.Prelude.{◌≡◌, ℕ, Bool, true, false, List, [], ◌∷◌, ◌++◌, map, Option, None, option_to_list}
 use Rattle.std.specs.List.{filter}
 use Rattle.std.specs.Io.KnownBytes.{Appends}
 use Rattle.mq_topic.specs.declared.qos.Qos.{Qos}
@@ -10,8 +10,6 @@ use Rattle.mq_end.specs.declared.reason.CloseReason.{CloseReason}
 use Rattle.mq_end.specs.Publishing.{ClientState}
 use Rattle.mq_client.specs.Course.{IsIdle, Leaves, Moment, Opening, Publication, Went, WentFirst}
 use Rattle.mq_pubsub.specs.Giving.{Gives}
-use Rattle.mq_pubsub_runs.specs.declared.stop.Stop.{Stop}
-use Rattle.mq_pubsub_runs.specs.declared.stop.Stop.TheVariants.{Connection, Application}
 
 abbrev pub is_q0 : Qos → Bool
 is_q0 Q0 = true
@@ -72,26 +70,11 @@ pub record Publishes (start end : Moment) (next later : Option Message) (unwritt
   pub none_before : pending ≡ 0 → unwritten ≡ 0
   pub none : pending ≡ 0 → unstored messages ≡ []
 
--- Messages were taken from a source and published, and the output is not sent yet.
-pub record Fills (start end : Moment) (next later : Option Message) (unwritten pending : ℕ) (coming left : Option (List Message)) : Type 0 where
-  pub messages : List Message
-  pub fresh : List Message
-  pub published : Went start end (map Publication messages) [] []
-  pub given : Gives coming left fresh
-  pub parts : option_to_list next ++ fresh ≡ messages ++ option_to_list later
-  pub none_before : pending ≡ 0 → unwritten ≡ 0
-  pub none : pending ≡ 0 → unstored messages ≡ []
-
 -- These messages were published, and the run stopped early.
 pub record PartPosted (start end : Moment) : Type 0 where
   pub messages : List Message
   pub unwritten : List Message
   pub posted : Posted start end messages unwritten
-
--- the progress so far, if the work over a connection ended early for this reason
-abbrev pub ProgressUntil : Moment → Moment → Option Message → Option Message → ℕ → ℕ → Option (List Message) → Option (List Message) → Stop → Type 0
-ProgressUntil start end next later lost missing coming left (Connection error) = Progress start end next later lost missing coming left
-ProgressUntil start end next later lost missing coming left (Application error) = PartPosted start end
 
 -- All messages were published and nothing was lost. Everything is acknowledged, and then the client
 -- left.
@@ -101,11 +84,6 @@ pub record Finishes (start end : Moment) (next : Option Message) (lost : ℕ) (c
   pub idle : IsIdle last.client.link.end
   pub leaves : Leaves last end
   pub whole : Posted last end [] []
-
--- The work over a connection is done, or it ended early.
-abbrev pub PublishEnds : Moment → Moment → Option Message → Option Message → ℕ → ℕ → Option (List Message) → Option (List Message) → Result ⊤ Stop → Type 0
-PublishEnds start end next later lost missing coming left (Ok done) = Finishes start end next lost coming left
-PublishEnds start end next later lost missing coming left (Err stop) = ProgressUntil start end next later lost missing coming left stop
 
 -- The client and its stored session at the start.
 pub record StartsWith (start : Moment) (client : ClientState) (kept : Option (List ℕ)) : Type 0 where
@@ -125,7 +103,3 @@ pub record AllPosted (start end : Moment) (coming left : Option (List Message)) 
 -- No message is left to publish: none was taken from the source, and it has ended.
 abbrev pub IsLast : Option Message → Bool → Type 0
 IsLast next is_ended = (next ≡ None) × (is_ended ≡ true)
-
--- If a publisher notes that its source has no message any more, then this is so.
-abbrev pub Remembers : Bool → Type 0 → Type 0
-Remembers is_ended ended = is_ended ≡ true → ended

@@ -1,5 +1,5 @@
 -- The run of a subscriber, over one connection after another.
-use Rattle.std.specs.Prelude.{◌≡◌, ◌⊎◌, ⊤, true, false, not, List, [], ◌∷◌, ◌++◌, Option, None, Result, Ok, Err, is_some, option_map, option_to_list}
+use Rattle.std.specs.Prelude.{◌≡◌, ◌⊎◌, true, false, not, List, [], ◌∷◌, ◌++◌, Option, None, is_some, option_map, option_to_list}
 use Rattle.std.specs.Io.KnownBytes.{Keeps}
 use Rattle.mq_packet.specs.declared.message.Message.{Message}
 use Rattle.mq_end.specs.declared.happening.Happening.{Happening}
@@ -11,8 +11,6 @@ use Rattle.mq_pubsub.specs.declared.inbox.Inbox.{Inbox}
 use Rattle.mq_pubsub.specs.declared.options.SubscribeOptions.{SubscribeOptions}
 use Rattle.mq_pubsub.specs.Printing.{Shows}
 use Rattle.mq_pubsub.specs.Subscribing.{Prints}
-use Rattle.mq_pubsub_runs.specs.declared.stop.Stop.{Stop}
-use Rattle.mq_pubsub_runs.specs.declared.stop.Stop.TheVariants.{Connection, Application}
 
 -- the subscriptions are not granted any more
 abbrev pub forgets : Inbox → Inbox
@@ -68,16 +66,6 @@ pub record Unprinted (options : SubscribeOptions) (start : Moment) (first : Inbo
   pub reasons : List CloseReason
   pub after : Went last end [] told reasons
   pub silent : Keeps last.written end.written
-
--- the run so far, if it stopped for this reason
-abbrev pub WatchedUntil : SubscribeOptions → Moment → Inbox → Option (List Message) → Moment → Inbox → Option (List Message) → Stop → Type 0
-WatchedUntil options start first output end last printed (Connection error) = Watched options start first output end last printed
-WatchedUntil options start first output end last printed (Application error) = Unprinted options start first output end
-
--- the work over a connection reached the end of the run, or ended early
-abbrev pub SubscribeEnds : SubscribeOptions → Moment → Inbox → Option (List Message) → Moment → Inbox → Option (List Message) → Result ⊤ Stop → Type 0
-SubscribeEnds options start first output end last printed (Ok done) = Watched options start first output end last printed × (last.is_ended ≡ true)
-SubscribeEnds options start first output end last printed (Err stop) = WatchedUntil options start first output end last printed stop
 
 -- the run so far: everything that was received is printed, but for the last read, if the printer
 -- failed

@@ -13,7 +13,7 @@ use Rattle.mq_world.specs.declared.side.Side.{Side}
 use Rattle.mq_world.specs.declared.side.Side.TheVariants.{Client, Server}
 use Rattle.mq_world.specs.declared.answer.Answer.{Answer}
 use Rattle.mq_world.specs.declared.answer.Answer.TheVariants as answers
-use Rattle.mq_world.specs.declared.answer.Delivery.{Delivery}
+use Rattle.mq_world.specs.declared.answer.DeliveredBytes.{DeliveredBytes}
 use Rattle.mq_world.specs.declared.answer.Opening.{Opening}
 use Rattle.mq_world.specs.declared.answer.Settling.{Settling}
 use Rattle.mq_packet.specs.Lines.{escaped, truth}
@@ -83,7 +83,7 @@ abbrev pub bytes_line : Side → List ℕ → List ℕ
 bytes_line side bytes = codes "to " ++ line_of side (bytes_word bytes)
 
 -- The bytes, whether they were lost, and their effect.
-abbrev pub delivery_lines : Delivery → List ℕ
+abbrev pub delivery_lines : DeliveredBytes → List ℕ
 delivery_lines delivery =
     bytes_line delivery.side delivery.bytes
     ++ (lost_line delivery.lost ++ (flat_map (happening_line delivery.side) delivery.progress.happenings ++ closed_line delivery.side delivery.progress.closed))

@@ -7,7 +7,7 @@ use crate::words::{HandedText, IdWord};
 use mq_end::{CloseReason, Happening, PublishRefusal};
 use mq_packet::PacketId;
 use mq_schedule::{BytesWord, SideWord};
-use mq_world::{Answer, Delivery, Opening, Settling, Side};
+use mq_world::{Answer, DeliveredBytes, Opening, Settling, Side};
 use std::io;
 use std::io::Write;
 
@@ -105,7 +105,7 @@ fn write_lost<W: Write>(output: &mut W, lost: bool) -> io::Result<()>
 }
 
 // Writes the bytes, whether they were lost, and their effect.
-fn write_delivery<W: Write>(output: &mut W, delivery: &Delivery) -> io::Result<()>
+fn write_delivery<W: Write>(output: &mut W, delivery: &DeliveredBytes) -> io::Result<()>
     ensures { OnOk result
         (Appends (W.contents output.old) (W.contents output.new) (delivery_lines delivery.now)) }
 {
@@ -117,7 +117,7 @@ fn write_delivery<W: Write>(output: &mut W, delivery: &Delivery) -> io::Result<(
 }
 
 // Writes the deliveries in order.
-fn write_deliveries<W: Write>(output: &mut W, deliveries: &[Delivery]) -> io::Result<()>
+fn write_deliveries<W: Write>(output: &mut W, deliveries: &[DeliveredBytes]) -> io::Result<()>
     ensures { OnOk result (Appends (W.contents output.old) (W.contents output.new)
         (flat_map delivery_lines deliveries.now)) }
 {

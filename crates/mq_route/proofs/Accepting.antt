@@ -31,7 +31,7 @@ use Rattle.mq_end.specs.declared.reason.CloseReason.TheVariants as reasons
 use Rattle.mq_end.specs.declared.state.State.{State}
 use Rattle.mq_end.specs.declared.state.State.TheVariants.{Disconnected, Connecting, Connected}
 use Rattle.mq_end.specs.Both.{publish_gets, flow_gets, stores}
-use Rattle.mq_end.specs.End.{End, Reply, closes, comes_up, over, renewed}
+use Rattle.mq_end.specs.End.{End, Reply, closes, becomes_connected, over, renewed}
 use Rattle.mq_end.specs.Laws.{SoundLaws}
 use Rattle.mq_end.specs.Server.{opens, refuses, server_gets, server_gets_in, server_up_gets, server_open_gets, connect_gets, subacks, unsubacks}
 use Rattle.mq_route.specs.declared.act.Act.{Act}
@@ -49,12 +49,12 @@ use Rattle.mq_route.specs.declared.connection_state.ConnectionTerms.{ConnectionT
 use Rattle.mq_route.specs.Copies.{is_hidden_name, copy_by, will_message}
 use Rattle.mq_route.specs.Hub.{HubState, HubSession, HubConnection, new_hub, new_end, no_end, stage_of, key_on, changed, held_on, is_open, up_on, key_of, end_of, with_end, with_left, without_session, for_key, copies_of}
 use Rattle.mq_route.specs.Welcome.{client_of, refusal, ends_with}
-use Rattle.mq_route.specs.Work.{Work, begin, said, with_sessions, staged, shut, put_on, put_where, does, drops_copies, is_missed, have_room, deliver, place, place_all, publishes_next, remove, remove_if, last_will, will_after, leaves_behind, shut_down, close, subscribed, unsubscribed, retained_copies}
-use Rattle.mq_route.specs.Arrives.{Growth, granted, due, answers, answers_all, replies, greeting, terms_of, resume_session, new_session, start_session, take_over, goes_on, accept_connect, on_connect, on_first_packet, on_passed_packet, is_too_broad, dispatch_packet, touched_on, arrives, takes, closes_by, broken, on_malformed}
-use Rattle.mq_route.specs.Step.{holding, Comes, Arrives, Waits, Breaks, Starves, LetsGo, Ticks, Done, InTime, Late, Does, ended_open, expired_keys, remove_all, expire, told}
+use Rattle.mq_route.specs.Work.{Work, begin, said, with_sessions, staged, shut, put_on, put_where, does, drops_copies, is_missed, have_room, deliver, enqueue, enqueue_all, publishes_next, remove, remove_if, last_will, will_after, leaves_behind, shut_down, close, subscribed, unsubscribed, retained_copies}
+use Rattle.mq_route.specs.Arrives.{Growth, granted, due, answers, answers_all, replies, greeting, terms_of, resume_session, new_session, start_session, take_over, goes_on, accept_connect, on_connect, on_first_packet, on_passed_packet, is_too_broad, dispatch_packet, touched_on, arrives, on_packet, closes_by, broken, on_malformed}
+use Rattle.mq_route.specs.Step.{holding, OnBytes, Arrives, Waits, Breaks, Starves, LetsGo, OnTick, Done, InTime, Late, Does, close_if_open, expired_keys, remove_all, expire, with_clock}
 use Rattle.mq_route.specs.Runs.{Episode, Follows}
 use Rattle.mq_route.specs.Dropped.{when_over}
-use Rattle.mq_route.specs.Accepted.{Placing, AreAccepts, is_miss, is_stored_miss, is_plain_miss, marked_for, placings, in_share, in_will, in_leaving, in_close, in_answer, in_answers, in_replies, in_take_over, in_welcome, in_first, in_packet, in_takes, in_breaks, in_comes, in_ticks, in_step, AcceptLaws}
+use Rattle.mq_route.specs.Accepted.{Placing, AreAccepts, is_miss, is_stored_miss, is_plain_miss, marked_for, placings, in_share, in_will, in_leaving, in_close, in_answer, in_answers, in_replies, in_take_over, in_welcome, in_first, in_packet, in_on_packet, in_breaks, in_on_bytes, in_on_tick, in_step, AcceptLaws}
 use Rattle.mq_route.specs.Routed.{marked_by, marked}
 use Rattle.mq_route.proofs.Lines.{grown, names_changed, ups_changed, up_map}
 use Rattle.mq_route.proofs.Sessions.{has, has_left, has_with, has_without, end_left, end_without, has_new, end_new, no_session}
@@ -107,7 +107,7 @@ connect_quiet : (c : Connect) (e : End) → Each Quiet (connect_gets c e).happen
 connect_quiet c e =
     let present = not c.clean_session && e.known in
     cond_both (not c.clean_session && eqb (length c.client_id) 0) (refuses IdentifierRejected e)
-    (comes_up (packets.ConnAck (connacks.Accepted present) ∷ []) present (record (renewed c.clean_session e) { keep_alive = c.keep_alive }))
+    (becomes_connected (packets.ConnAck (connacks.Accepted present) ∷ []) present (record (renewed c.clean_session e) { keep_alive = c.keep_alive }))
     (λ r. Each Quiet r.happenings) (λ b. tt) (λ b. (tt, tt))
 
 open_quiet : (p : Packet) (e : End) → Each Quiet (server_open_gets p e).happenings
@@ -225,21 +225,21 @@ does_did key move w = where_did (up_on key w.hub.connections) (move (end_of key 
 same_still : (log new : List Act) → new ≡ log → Still log new
 same_still log new e c = ap (marked c) e
 
-place_places : (c key : ℕ) (m : Message) (w : Work) → marked c (place key m w).did ≡ marked c w.did ++ cond (eqb key c) ((is_missed key m w.hub, m) ∷ []) []
-unfolding place marked_by
+place_places : (c key : ℕ) (m : Message) (w : Work) → marked c (enqueue key m w).did ≡ marked c w.did ++ cond (eqb key c) ((is_missed key m w.hub, m) ∷ []) []
+unfolding enqueue marked_by
 place_places c key m w = go (is_missed key m w.hub)
   where
     go : (b : Bool) → marked c (cond b (said (acts.Missed key m) w) (said (acts.Placed key m) (does key (publishes_next m) w))).did ≡ marked c w.did ++ cond (eqb key c) ((b, m) ∷ []) []
     go true = marked_more c w.did (acts.Missed key m)
     go false = marked_more c (does key (publishes_next m) w).did (acts.Placed key m) ∙ ap (λ (log : List Act). marked c log ++ cond (eqb key c) ((false, m) ∷ []) []) (does_did key (publishes_next m) w)
 
-placings_place : (copies : List (ℕ × Message)) (w : Work) → Places w.did (placings copies w) (place_all copies w).did
+placings_place : (copies : List (ℕ × Message)) (w : Work) → Places w.did (placings copies w) (enqueue_all copies w).did
 placings_place [] w c = sym (append-nil (marked c w.did))
 placings_place (x ∷ copies) w c =
-    placings_place copies (place x.0 x.1 w) c
-    ∙ ap (λ (l : List (Bool × Message)). l ++ marked_for c (placings copies (place x.0 x.1 w))) (place_places c x.0 x.1 w)
-    ∙ append_assoc (marked c w.did) (cond (eqb x.0 c) ((is_missed x.0 x.1 w.hub, x.1) ∷ []) []) (marked_for c (placings copies (place x.0 x.1 w)))
-    ∙ ap (λ (l : List (Bool × Message)). marked c w.did ++ l) (go (is_missed x.0 x.1 w.hub, x.1) (eqb x.0 c) (marked_for c (placings copies (place x.0 x.1 w))))
+    placings_place copies (enqueue x.0 x.1 w) c
+    ∙ ap (λ (l : List (Bool × Message)). l ++ marked_for c (placings copies (enqueue x.0 x.1 w))) (place_places c x.0 x.1 w)
+    ∙ append_assoc (marked c w.did) (cond (eqb x.0 c) ((is_missed x.0 x.1 w.hub, x.1) ∷ []) []) (marked_for c (placings copies (enqueue x.0 x.1 w)))
+    ∙ ap (λ (l : List (Bool × Message)). marked c w.did ++ l) (go (is_missed x.0 x.1 w.hub, x.1) (eqb x.0 c) (marked_for c (placings copies (enqueue x.0 x.1 w))))
   where
     go : (this : Bool × Message) (b : Bool) (l : List (Bool × Message)) → cond b (this ∷ []) [] ++ l ≡ cond b (this ∷ l) l
     go this true l = refl
@@ -288,7 +288,7 @@ module _ (config : HubConfig) (ids : IdentifierLaws) (next : NextLaws) (sound : 
       let v = retaining act m w in
       let copies = copies_of m w.hub in
       let a = accepting config ids next small copies v (record { is = h.is; books = h.books; rows = h.rows }) (copies_stand (Stands w.hub.sessions) m w.hub h.rows) r in
-      after_quiet w v (place_all copies v) (placings copies v) (still_more act none w.did) (record { accepts = a.0; kept = a.1; whole = a.2; places = placings_place copies v })
+      after_quiet w v (enqueue_all copies v) (placings copies v) (still_more act none w.did) (record { accepts = a.0; kept = a.1; whole = a.2; places = placings_place copies v })
 
   -- ---- subscriptions
 
@@ -395,7 +395,7 @@ module _ (config : HubConfig) (ids : IdentifierLaws) (next : NextLaws) (sound : 
       let x = does key answer u in
       let stays : has key x.hub.sessions ≡ true = ap (has key) (does_alike key answer u).0 ∙ has_with key (answer (end_of key u.hub.sessions)).end key u.hub.sessions ∙ ap (has key) (subscribed_sessions key rs v) ∙ stands in
       let a = accepting config ids next small copies x (holds_does config key answer u (kept.books key) kept) (retained_stand (Stands x.hub.sessions) key rs v.hub.retained stays) (room_does copies key answer u refl r) in
-      let y = place_all copies x in
+      let y = enqueue_all copies x in
       let asks : Goes v (placings copies x) y = after_quiet v x y (placings copies x) (λ c. same_still u.did x.did (does_did key answer u) c ∙ subscribed_still key rs v c)
       (record { accepts = a.0; kept = a.1; whole = a.2; places = placings_place copies x }) in
       go_on v y y (placings copies x) [] asks (quiet y y (λ c. refl) a.1)
@@ -623,7 +623,7 @@ module _ (config : HubConfig) (ids : IdentifierLaws) (next : NextLaws) (sound : 
       go false = replies_go k key p (server_gets p (end_of key w.hub.sessions)).close fits w h
   packet_goes k p fits Closed w h = quiet w w (λ c. refl) h
 
-  arrives_goes : (k : Conn) (p : Packet) (g : Growth) (w : Work) → Kept w → Goes w (in_takes k p g w) (arrives k p g w)
+  arrives_goes : (k : Conn) (p : Packet) (g : Growth) (w : Work) → Kept w → Goes w (in_on_packet k p g w) (arrives k p g w)
   unfolding arrives
   arrives_goes k p g w h = go g.fits
     where
@@ -635,8 +635,8 @@ module _ (config : HubConfig) (ids : IdentifierLaws) (next : NextLaws) (sound : 
           record { accepts = a.accepts; kept = a.kept; whole = a.whole; places = a.places }
       go false = close_goes k (Own reasons.Memory) g.will_fits w h
 
-  takes_goes : (k : Conn) (p : Packet) (g : Growth) (w : Work) → Kept w → Goes w (in_takes k p g w) (takes k p g w)
-  unfolding takes
+  takes_goes : (k : Conn) (p : Packet) (g : Growth) (w : Work) → Kept w → Goes w (in_on_packet k p g w) (on_packet k p g w)
+  unfolding on_packet
   takes_goes k p g w h =
       let a = arrives_goes k p g w h in
       record { accepts = a.accepts; kept = record { is = a.kept.is; books = a.kept.books; rows = a.kept.rows }; whole = a.whole; places = a.places }
@@ -651,24 +651,24 @@ module _ (config : HubConfig) (ids : IdentifierLaws) (next : NextLaws) (sound : 
 
   -- ---- events
 
-  comes_go : (limits : Bounds) (k : Conn) (b : List ℕ) (w w2 : Work) (c : Comes limits k b w w2) → Kept w → Goes w (in_comes limits k b w w2 c) w2
+  comes_go : (limits : Bounds) (k : Conn) (b : List ℕ) (w w2 : Work) (c : OnBytes limits k b w w2) → Kept w → Goes w (in_on_bytes limits k b w w2 c) w2
   comes_go limits k b w w2 (Arrives p first rest g v v2 on reads more) h =
       let t = takes_goes k p g v h in
-      go_on v (takes k p g v) v2 (in_takes k p g v) (in_comes limits k rest (takes k p g v) v2 more) t (comes_go limits k rest (takes k p g v) v2 more t.kept)
+      go_on v (on_packet k p g v) v2 (in_on_packet k p g v) (in_on_bytes limits k rest (on_packet k p g v) v2 more) t (comes_go limits k rest (on_packet k p g v) v2 more t.kept)
   comes_go limits k b w w2 (Waits c v on pending) h = quiet v (holding k c v) (λ c. refl) (record { is = h.is; books = h.books; rows = h.rows })
   comes_go limits k b w w2 (Breaks c fault fits v on faulty) h = breaks_go k fault fits v h
   comes_go limits k b w w2 (Starves c fits v on some) h = close_goes k (Own reasons.Memory) fits v h
   comes_go limits k b w w2 (LetsGo c v closed) h = quiet v v (λ c. refl) h
 
-  ticks_go : (within : Option ℕ) (now : ℕ) (xs : List HubConnection) (w w2 : Work) (t : Ticks within now xs w w2) → Kept w → Goes w (in_ticks within now xs w w2 t) w2
+  ticks_go : (within : Option ℕ) (now : ℕ) (xs : List HubConnection) (w w2 : Work) (t : OnTick within now xs w w2) → Kept w → Goes w (in_on_tick within now xs w w2 t) w2
   ticks_go within now xs w w2 (Done v) h = quiet v v (λ c. refl) h
   ticks_go within now xs w w2 (InTime x ys v v2 soon more) h = ticks_go within now ys v v2 more h
   ticks_go within now xs w w2 (Late x ys why fits v v2 late more) h =
       let u = close x.conn why fits v in
       let c = close_goes x.conn why fits v h in
-      go_on v u v2 (in_close x.conn why fits v) (in_ticks within now ys u v2 more) c (ticks_go within now ys u v2 more c.kept)
+      go_on v u v2 (in_close x.conn why fits v) (in_on_tick within now ys u v2 more) c (ticks_go within now ys u v2 more c.kept)
 
-  ended_goes : (k : Conn) (alive fits : Bool) (w : Work) → Kept w → Goes w (cond alive (in_close k PeerEnded fits w) []) (ended_open k alive fits w)
+  ended_goes : (k : Conn) (alive fits : Bool) (w : Work) → Kept w → Goes w (cond alive (in_close k PeerEnded fits w) []) (close_if_open k alive fits w)
   ended_goes k true fits w h = close_goes k PeerEnded fits w h
   ended_goes k false fits w h = quiet w w (λ c. refl) h
 
@@ -677,16 +677,16 @@ module _ (config : HubConfig) (ids : IdentifierLaws) (next : NextLaws) (sound : 
   event_goes h (Bytes k piece) r w d s =
       let v = holding k [] (begin h) in
       let b = held_on k h.connections ++ piece in
-      after_quiet (begin h) v w (in_comes h.config.limits k b v w d.0) (λ c. refl) (comes_go h.config.limits k b v w d.0 (record { is = s.is; books = s.books; rows = s.rows }))
+      after_quiet (begin h) v w (in_on_bytes h.config.limits k b v w d.0) (λ c. refl) (comes_go h.config.limits k b v w d.0 (record { is = s.is; books = s.books; rows = s.rows }))
   event_goes h (Ended k) r w d s =
       let alive = is_open (stage_of k h.connections) in
       let over = ended_goes k alive d.0 (begin h) s in
       subst (Goes (begin h) (cond alive (in_close k PeerEnded d.0 (begin h)) [])) (sym d.1)
       (record { accepts = over.accepts; kept = record { is = over.kept.is; books = over.kept.books; rows = over.kept.rows }; whole = over.whole; places = over.places })
   event_goes h (Tick now) r w d s =
-      let v = expire (told now h) in
-      after_quiet (begin h) v w (in_ticks h.config.connect_within (max h.clock now) h.connections v w d.0) (expire_still (told now h))
-      (ticks_go h.config.connect_within (max h.clock now) h.connections v w d.0 (expire_kept (told now h) (record { is = s.is; books = s.books; rows = s.rows })))
+      let v = expire (with_clock now h) in
+      after_quiet (begin h) v w (in_on_tick h.config.connect_within (max h.clock now) h.connections v w d.0) (expire_still (with_clock now h))
+      (ticks_go h.config.connect_within (max h.clock now) h.connections v w d.0 (expire_kept (with_clock now h) (record { is = s.is; books = s.books; rows = s.rows })))
   event_goes h (Collect k) r w d s = quiet (begin h) w (same_still [] w.did (ap (λ (w : Work). w.did) d.0)) (subst Kept (sym d.0) (record { is = s.is; books = s.books; rows = s.rows }))
 
   run_kept : (es : List Episode) (h h2 : HubState) → Follows h es h2 → Holds config h → Holds config h2

@@ -29,7 +29,7 @@ use Rattle.mq_route.specs.declared.conn.Conn.{Conn}
 use Rattle.mq_route.specs.declared.act.Act.TheVariants as acts
 use Rattle.mq_route.specs.Copies.{is_hidden_name, copy_by, retained_for}
 use Rattle.mq_route.specs.Hub.{HubState, HubSession, end_of, with_end, up_on, for_key, copies_of}
-use Rattle.mq_route.specs.Work.{Work, said, with_sessions, put_on, put_where, does, publishes_next, drops_copies, leaves, lacks_room, lacks_output, pending_on, publish_bytes, is_missed, place, place_all, needs, needed_bytes, fits_in, all_fit, have_room, retained_copies}
+use Rattle.mq_route.specs.Work.{Work, said, with_sessions, put_on, put_where, does, publishes_next, drops_copies, leaves, lacks_room, lacks_output, pending_on, publish_bytes, is_missed, enqueue, enqueue_all, needs, needed_bytes, fits_in, all_fit, have_room, retained_copies}
 use Rattle.mq_route.specs.Accepted.{Placing, IsAccept, is_stored_miss, is_plain_miss, AreAccepts, placings}
 use Rattle.mq_route.proofs.StoredBytes.{Leaves, Within, IsStored, leaves_le, le_leaves, leaves_less, leaves_next, within_next, stored_accept, blank_stored, over_stored, gets_stored}
 use Rattle.mq_route.proofs.Sessions.{has, has_with, end_with, each_there, each_with}
@@ -136,16 +136,16 @@ unfolding does
 does_alike key move w = where_alike (up_on key w.hub.connections) (move (end_of key w.hub.sessions)).out (with_sessions (with_end key (move (end_of key w.hub.sessions)).end) w)
 
 -- a copy that is placed
-pub place_goes : (key : ℕ) (m : Message) (w : Work) → is_missed key m w.hub ≡ false → place key m w ≡ said (acts.Placed key m) (does key (publishes_next m) w)
-unfolding place
+pub place_goes : (key : ℕ) (m : Message) (w : Work) → is_missed key m w.hub ≡ false → enqueue key m w ≡ said (acts.Placed key m) (does key (publishes_next m) w)
+unfolding enqueue
 place_goes key m w e = cond-false (is_missed key m w.hub) (said (acts.Missed key m) w) (said (acts.Placed key m) (does key (publishes_next m) w)) e
 
 -- one that is missed
-pub place_misses : (key : ℕ) (m : Message) (w : Work) → is_missed key m w.hub ≡ true → place key m w ≡ said (acts.Missed key m) w
-unfolding place
+pub place_misses : (key : ℕ) (m : Message) (w : Work) → is_missed key m w.hub ≡ true → enqueue key m w ≡ said (acts.Missed key m) w
+unfolding enqueue
 place_misses key m w e = cond-true (is_missed key m w.hub) (said (acts.Missed key m) w) (said (acts.Placed key m) (does key (publishes_next m) w)) e
 
-pub place_alike : (key : ℕ) (m : Message) (w : Work) → is_missed key m w.hub ≡ false → IsAlikeHub (place key m w).hub (with_sessions (with_end key (publishes_next m (end_of key w.hub.sessions)).end) w).hub
+pub place_alike : (key : ℕ) (m : Message) (w : Work) → is_missed key m w.hub ≡ false → IsAlikeHub (enqueue key m w).hub (with_sessions (with_end key (publishes_next m (end_of key w.hub.sessions)).end) w).hub
 place_alike key m w e =
     subst (λ (v : Work). IsAlikeHub v.hub (with_sessions (with_end key (publishes_next m (end_of key w.hub.sessions)).end) w).hub) (sym (place_goes key m w e)) (does_alike key (publishes_next m) w)
 
@@ -399,14 +399,14 @@ module _ (config : HubConfig) where
       abbrev after : Work
       after = with_sessions (with_end key (publishes_next m e).end) w
 
-      sessions_after : (place key m w).hub.sessions ≡ with_end key (publishes_next m e).end w.hub.sessions
+      sessions_after : (enqueue key m w).hub.sessions ≡ with_end key (publishes_next m e).end w.hub.sessions
       sessions_after = (place_alike key m w goes).0
 
-      place_holds : Holds (place key m w).hub
+      place_holds : Holds (enqueue key m w).hub
       place_holds =
-          holds_alike (place key m w).hub after.hub (place_alike key m w goes) (holds_with key (publishes_next m e).end w (published m.qos 0 m e (hold.books key) spare spare_bytes).0 hold)
+          holds_alike (enqueue key m w).hub after.hub (place_alike key m w goes) (holds_with key (publishes_next m e).end w (published m.qos 0 m e (hold.books key) spare spare_bytes).0 hold)
 
-      place_room : Room copies (place key m w).hub.sessions
+      place_room : Room copies (enqueue key m w).hub.sessions
       place_room =
           subst (Room copies) (sym sessions_after)
           (each_there (Fits copies) key (publishes_next m e).end w.hub.sessions there
@@ -472,29 +472,29 @@ module _ (config : HubConfig) where
     -- copies for which there is room, or that may be dropped, are accepted or missed, and the books
     -- stay sound
     pub accepting : (copies : List (ℕ × Message)) (w : Work) → Holds w.hub → For (Stands w.hub.sessions) copies → Room copies w.hub.sessions
-        → AreAccepts (placings copies w) × Holds (place_all copies w).hub × Whole (placings copies w)
+        → AreAccepts (placings copies w) × Holds (enqueue_all copies w).hub × Whole (placings copies w)
     accepting [] w hold stand r = (tt, hold, (λ keep. refl, λ unlimited. refl))
-    accepting (x ∷ copies) w hold stand r = go (is_missed x.0 x.1 w.hub) refl (accepting copies (place x.0 x.1 w))
+    accepting (x ∷ copies) w hold stand r = go (is_missed x.0 x.1 w.hub) refl (accepting copies (enqueue x.0 x.1 w))
       where
         fewer : Room copies w.hub.sessions
         fewer c keep t = roomy_less c x copies (end_of c w.hub.sessions) (r c keep t)
 
-        whole : Whole (placings copies (place x.0 x.1 w)) → Whole (placings (x ∷ copies) w)
+        whole : Whole (placings copies (enqueue x.0 x.1 w)) → Whole (placings (x ∷ copies) w)
         whole more = (
-          λ keep. or_from (is_missed x.0 x.1 w.hub && has_identifier x.1.qos) (list_any is_stored_miss (placings copies (place x.0 x.1 w))) (kept_by x.0 x.1 w hold keep) (more.0 keep),
-          λ unlimited. or_from (is_missed x.0 x.1 w.hub && not (has_identifier x.1.qos)) (list_any is_plain_miss (placings copies (place x.0 x.1 w))) (sent_by x.0 x.1 w hold unlimited) (more.1 unlimited),
+          λ keep. or_from (is_missed x.0 x.1 w.hub && has_identifier x.1.qos) (list_any is_stored_miss (placings copies (enqueue x.0 x.1 w))) (kept_by x.0 x.1 w hold keep) (more.0 keep),
+          λ unlimited. or_from (is_missed x.0 x.1 w.hub && not (has_identifier x.1.qos)) (list_any is_plain_miss (placings copies (enqueue x.0 x.1 w))) (sent_by x.0 x.1 w hold unlimited) (more.1 unlimited),
         )
 
         go : (b : Bool) → is_missed x.0 x.1 w.hub ≡ b
-            → (Holds (place x.0 x.1 w).hub → For (Stands (place x.0 x.1 w).hub.sessions) copies → Room copies (place x.0 x.1 w).hub.sessions
-            → AreAccepts (placings copies (place x.0 x.1 w)) × Holds (place_all copies (place x.0 x.1 w)).hub × Whole (placings copies (place x.0 x.1 w)))
-            → AreAccepts (placings (x ∷ copies) w) × Holds (place_all copies (place x.0 x.1 w)).hub × Whole (placings (x ∷ copies) w)
+            → (Holds (enqueue x.0 x.1 w).hub → For (Stands (enqueue x.0 x.1 w).hub.sessions) copies → Room copies (enqueue x.0 x.1 w).hub.sessions
+            → AreAccepts (placings copies (enqueue x.0 x.1 w)) × Holds (enqueue_all copies (enqueue x.0 x.1 w)).hub × Whole (placings copies (enqueue x.0 x.1 w)))
+            → AreAccepts (placings (x ∷ copies) w) × Holds (enqueue_all copies (enqueue x.0 x.1 w)).hub × Whole (placings (x ∷ copies) w)
         go true is ih =
-            let stays : w ≡ record (place x.0 x.1 w) { did = w.did } = ap (λ (v : Work). record v { did = w.did }) (sym (place_misses x.0 x.1 w is)) in
+            let stays : w ≡ record (enqueue x.0 x.1 w) { did = w.did } = ap (λ (v : Work). record v { did = w.did }) (sym (place_misses x.0 x.1 w is)) in
             let more = ih (subst Holds (ap (λ (v : Work). v.hub) stays) hold) (subst (λ (v : Work). For (Stands v.hub.sessions) copies) stays stand.1) (subst (λ (v : Work). Room copies v.hub.sessions) stays fewer) in
             ((λ goes. absurd (true≢false (sym is ∙ goes)), more.0), more.1, whole more.2)
         go false is ih =
-            let ss = (place x.0 x.1 w).hub.sessions in
+            let ss = (enqueue x.0 x.1 w).hub.sessions in
             let e = (publishes_next x.1 (end_of x.0 w.hub.sessions)).end in
             let later = each_weaker (λ (y : ℕ × Message). Stands w.hub.sessions y.0) (λ (y : ℕ × Message). Stands ss y.0)
             (λ y there. ap (has y.0) (place_alike x.0 x.1 w is).0 ∙ has_with x.0 e y.0 w.hub.sessions ∙ there) copies stand.1 in

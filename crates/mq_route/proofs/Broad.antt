@@ -21,8 +21,8 @@ use Rattle.mq_route.specs.declared.connection_state.ConnectionState.TheVariants.
 use Rattle.mq_route.specs.Copies.{copy, retained_for}
 use Rattle.mq_route.specs.Hub.{HubState, new_hub, stage_of, is_open, key_on, held_on, for_key}
 use Rattle.mq_route.specs.Work.{Work, begin, leaves, retained_copies, close}
-use Rattle.mq_route.specs.Arrives.{Growth, is_too_broad, on_passed_packet, touched, touched_on, dispatch_packet, arrives, takes}
-use Rattle.mq_route.specs.Step.{holding, Comes, Arrives, Waits, Breaks, Starves, LetsGo, Does, told}
+use Rattle.mq_route.specs.Arrives.{Growth, is_too_broad, on_passed_packet, touched, touched_on, dispatch_packet, arrives, on_packet}
+use Rattle.mq_route.specs.Step.{holding, OnBytes, Arrives, Waits, Breaks, Starves, LetsGo, Does, with_clock}
 use Rattle.mq_route.specs.Broad.{if_broad, broad_closes, IsTooBroad, ComesTooBroad, IsBroadEvent, BroadLaws}
 use Rattle.mq_route.proofs.Changes.{Anywhere, anywhere, Freely, freely, Ways, Sound}
 use Rattle.mq_route.proofs.Closings.{May, Few, inner, outer, only, close_adds}
@@ -60,8 +60,8 @@ dispatch_broad k p fits (ConnectedAs key terms last_activity) now w none x e =
     (λ narrow. absurd (true≢false (sym x.broad ∙ narrow)))
 dispatch_broad k p fits Closed now w none x e = absurd cc
 
-takes_broad : (k : Conn) (p : Packet) (g : Growth) (w : Work) → broad_closes w.did ≡ [] → IsBroad k p (touched_on k w) → Leaves k (takes k p g w)
-unfolding takes arrives
+takes_broad : (k : Conn) (p : Packet) (g : Growth) (w : Work) → broad_closes w.did ≡ [] → IsBroad k p (touched_on k w) → Leaves k (on_packet k p g w)
+unfolding on_packet arrives
 takes_broad k p g w none x =
     cond_both g.fits (dispatch_packet k p g.will_fits (stage_of k w.hub.connections) (touched_on k w)) (close k (Own reasons.Memory) g.will_fits w) (Leaves k)
     (λ fits. dispatch_broad k p g.will_fits (stage_of k w.hub.connections) w.hub.clock (touched_on k w) none x (ap key_on (sym (stage_heard k w)) ∙ x.up))
@@ -72,7 +72,7 @@ broad_touched : (p : Packet) (k : Conn) (w : Work) → is_too_broad p (touched_o
 broad_touched (packets.Subscribe i requests) k w = refl
 broad_touched p k w = refl
 
-too_broad : (k : Conn) (p : Packet) (g : Growth) (w : Work) → IsBroad k p (touched_on k w) → broad_closes w.did ≡ [] → broad_closes (takes k p g w).did ≡ k ∷ [] → IsTooBroad k p g w
+too_broad : (k : Conn) (p : Packet) (g : Growth) (w : Work) → IsBroad k p (touched_on k w) → broad_closes w.did ≡ [] → broad_closes (on_packet k p g w).did ≡ k ∷ [] → IsTooBroad k p g w
 too_broad k p g w x none closes = record {
   key = x.key;
   connected = sym (key_touched w.hub.clock (stage_of k w.hub.connections)) ∙ ap key_on (sym (stage_heard k w)) ∙ x.up;
@@ -83,16 +83,16 @@ too_broad k p g w x none closes = record {
 
 -- ---- the bytes of an event
 
-few_comes : (limits : Bounds) (k : Conn) (b : List ℕ) (w w2 : Work) (c : Comes limits k b w w2) → Sound w.hub → broad_closes w.did ≡ []
+few_comes : (limits : Bounds) (k : Conn) (b : List ℕ) (w w2 : Work) (c : OnBytes limits k b w w2) → Sound w.hub → broad_closes w.did ≡ []
     → (broad_closes w2.did ≡ []) ⊎ ((broad_closes w2.did ≡ k ∷ []) × ComesTooBroad limits k b w w2 c)
 few_comes limits k b w w2 (Arrives p first rest g v v2 on reads more) s none =
     let X : Type 0 = IsBroad k p (touched_on k v) in
     let t = takes_both (Few if_broad [] X) (May if_broad X) Anywhere (inner if_broad [] X) (outer if_broad [] X) (ways X) anywhere k p g v tt tt
     ((λ key up state short. inl (λ k. refl)), (λ key up broad. inr (record { key = key; up = up; broad = broad }))) (s, inl none) in
-    go t.1 (λ none. few_comes limits k rest (takes k p g v) v2 more t.0 none)
+    go t.1 (λ none. few_comes limits k rest (on_packet k p g v) v2 more t.0 none)
   where
     now : Work
-    now = takes k p g v
+    now = on_packet k p g v
 
     Ends : Type 0
     Ends = (broad_closes v2.did ≡ []) ⊎ ((broad_closes v2.did ≡ k ∷ []) × (IsTooBroad k p g v ⊎ ComesTooBroad limits k rest now v2 more))
@@ -128,7 +128,7 @@ few_event h (Ended k) r w d s =
     inl (ap (λ (w : Work). broad_closes w.did) d.1
     ∙ only (ended_both (Few if_broad [] ⊥) (May if_broad ⊥) Anywhere (inner if_broad [] ⊥) (outer if_broad [] ⊥) (ways ⊥) anywhere k (is_open (stage_of k h.connections)) d.0 (begin h) tt (s, inl refl)).1)
 few_event h (Tick now) r w d s =
-    inl (only (tick_both (Few if_broad [] ⊥) (May if_broad ⊥) Anywhere (inner if_broad [] ⊥) (outer if_broad [] ⊥) (ways ⊥) anywhere (λ fits w. tt) (inl (λ k. refl)) (told now h) w d.0 (s, inl refl)).1)
+    inl (only (tick_both (Few if_broad [] ⊥) (May if_broad ⊥) Anywhere (inner if_broad [] ⊥) (outer if_broad [] ⊥) (ways ⊥) anywhere (λ fits w. tt) (inl (λ k. refl)) (with_clock now h) w d.0 (s, inl refl)).1)
 few_event h (Collect k) r w d s = inl (ap (λ (w : Work). broad_closes w.did) d.0)
 
 -- ---- without a limit
@@ -139,11 +139,11 @@ narrow (packets.Subscribe i requests) h none = ap (λ (most : Option ℕ). not (
 narrow p h none = refl
 
 -- so none of these bytes is
-none_comes : (limits : Bounds) (k : Conn) (b : List ℕ) (w w2 : Work) (c : Comes limits k b w w2) → Sound w.hub → w.hub.config.most_matches ≡ None → ComesTooBroad limits k b w w2 c → ⊥
+none_comes : (limits : Bounds) (k : Conn) (b : List ℕ) (w w2 : Work) (c : OnBytes limits k b w w2) → Sound w.hub → w.hub.config.most_matches ≡ None → ComesTooBroad limits k b w w2 c → ⊥
 none_comes limits k b w w2 (Arrives p first rest g v v2 on reads more) s none (inl x) = true≢false (sym x.broad ∙ narrow p v.hub none)
 none_comes limits k b w w2 (Arrives p first rest g v v2 on reads more) s none (inr later) =
     let same = takes_both (reading.Same v.hub.config) Freely Anywhere (reading.same_inner v.hub.config) (reading.same_outer v.hub.config) freely anywhere k p g v tt tt ((λ key up state short. tt), (λ key up broad. tt)) (s, refl) in
-    none_comes limits k rest (takes k p g v) v2 more same.0 (ap (λ (c : HubConfig). c.most_matches) same.1 ∙ none) later
+    none_comes limits k rest (on_packet k p g v) v2 more same.0 (ap (λ (c : HubConfig). c.most_matches) same.1 ∙ none) later
 none_comes limits k b w w2 (Waits c v on pending) s none x = x
 none_comes limits k b w w2 (Breaks c fault fits v on faulty) s none x = x
 none_comes limits k b w w2 (Starves c fits v on some) s none x = x

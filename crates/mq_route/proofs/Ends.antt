@@ -12,7 +12,7 @@ use Rattle.mq_packet.specs.declared.packet.Packet.{Packet}
 use Rattle.mq_packet.specs.declared.packet.Packet.TheVariants as packets
 use Rattle.mq_packet.specs.declared.publish.Delivery.{Delivery}
 use Rattle.mq_decode.specs.declared.fault.DecodeFault.{DecodeFault}
-use Rattle.mq_flow.specs.declared.entry.Entry.{Entry}
+use Rattle.mq_flow.specs.declared.entry.SenderEntry.{SenderEntry}
 use Rattle.mq_flow.specs.Receiver.{is_new}
 use Rattle.mq_flow.specs.Sender.{is_awaited, publish_packet}
 use Rattle.mq_flow.specs.Window.{fits_window}
@@ -22,7 +22,7 @@ use Rattle.mq_end.specs.declared.reason.CloseReason.{CloseReason}
 use Rattle.mq_end.specs.declared.reason.CloseReason.TheVariants as reasons
 use Rattle.mq_end.specs.declared.state.State.{State}
 use Rattle.mq_end.specs.declared.state.State.TheVariants.{Disconnected, Connecting, Connected}
-use Rattle.mq_end.specs.End.{End, Reply, closes, renewed, comes_up, is_up}
+use Rattle.mq_end.specs.End.{End, Reply, closes, renewed, becomes_connected, is_up}
 use Rattle.mq_end.specs.Both as both
 use Rattle.mq_end.specs.Both.{publish_gets, flow_gets, publishes_at}
 use Rattle.mq_end.specs.Server.{opens, refuses, level_refused, connect_gets, server_open_gets, server_gets, server_gets_in, server_up_gets}
@@ -50,7 +50,7 @@ released_answers : (ids : List ℕ) (ps : List Packet) → AreAnswers ps → Are
 released_answers [] ps all = all
 released_answers (i ∷ ids) ps all = released_answers ids ps all
 
-entries_answers : (es : List Entry) → AreAnswers (map (λ e. publish_packet e.id e.sent e.message) es)
+entries_answers : (es : List SenderEntry) → AreAnswers (map (λ e. publish_packet e.id e.sent e.message) es)
 entries_answers [] = refl
 entries_answers (e ∷ es) = entries_answers es
 
@@ -69,7 +69,7 @@ connect_answers : (c : Connect) (e : End) → AreAnswers (connect_gets c e).out
 connect_answers c e =
     let present = not c.clean_session && e.known in
     let f = record (renewed c.clean_session e) { keep_alive = c.keep_alive } in
-    cond_both (not c.clean_session && eqb (length c.client_id) 0) (refuses IdentifierRejected e) (comes_up (packets.ConnAck (connacks.Accepted present) ∷ []) present f)
+    cond_both (not c.clean_session && eqb (length c.client_id) 0) (refuses IdentifierRejected e) (becomes_connected (packets.ConnAck (connacks.Accepted present) ∷ []) present f)
     (λ r. AreAnswers r.out) (λ t. refl) (λ t. released_answers f.book.released (map (λ e. publish_packet e.id e.sent e.message) f.book.entries) (entries_answers f.book.entries))
 
 open_answers : (p : Packet) (e : End) → AreAnswers (server_open_gets p e).out
@@ -201,7 +201,7 @@ pub greets : (c : Connect) (e : End) → (not c.clean_session && eqb (length c.c
 greets c e accepted idle new =
     let f = (opens e).end in
     let present = not c.clean_session && f.known in
-    let r = comes_up (packets.ConnAck (connacks.Accepted present) ∷ []) present (record (renewed c.clean_session f) { keep_alive = c.keep_alive }) in
+    let r = becomes_connected (packets.ConnAck (connacks.Accepted present) ∷ []) present (record (renewed c.clean_session f) { keep_alive = c.keep_alive }) in
     let same : greeting c e ≡ r = cond-false (not c.clean_session && eqb (length c.client_id) 0) (refuses IdentifierRejected f) r accepted in
     subst (Greets c e) (sym same)
     (record {

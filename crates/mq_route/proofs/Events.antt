@@ -11,7 +11,7 @@ use Rattle.mq_route.specs.declared.connection_state.ConnectionState.{ConnectionS
 use Rattle.mq_route.specs.declared.connection_state.ConnectionState.TheVariants.{AwaitingConnect, ConnectedAs, Closed}
 use Rattle.mq_route.specs.Hub.{HubState, HubConnection, new_hub, knows, stage_of, changed, without_connection, is_open, end_of}
 use Rattle.mq_route.specs.Work.{Work, with_connections}
-use Rattle.mq_route.specs.Step.{Does, event_refusal, opened, collected, ended_open}
+use Rattle.mq_route.specs.Step.{Does, event_refusal, on_open, on_collect, close_if_open}
 use Rattle.mq_route.proofs.Lines.{Names, Ups, names_changed, ups_changed}
 use Rattle.mq_route.proofs.Uppers.{IsIdle, apart_opened, upper_opened, apart_without, upper_without}
 use Rattle.mq_route.proofs.Sessions.{has}
@@ -29,7 +29,7 @@ not_known k h e = go (knows k h.connections) e
     go true e = absurd cc
     go false e = refl
 
-pub sound_opened : (k : Conn) (h : HubState) → knows k h.connections ≡ false → Sound h → Sound (opened k h)
+pub sound_opened : (k : Conn) (h : HubState) → knows k h.connections ≡ false → Sound h → Sound (on_open k h)
 sound_opened k h none s = record {
   apart = apart_opened k h.clock h.connections none s.apart;
   keyless = s.keyless;
@@ -46,7 +46,7 @@ emptied_names x = refl
 pub emptied_ups : Ups emptied
 emptied_ups x = (λ c. refl, refl)
 
-pub sound_collected : (k : Conn) (h : HubState) → Sound h → Sound (collected k h)
+pub sound_collected : (k : Conn) (h : HubState) → Sound h → Sound (on_collect k h)
 sound_collected k h s = mapped (changed emptied k) h.connections h.next_key h.sessions (names_changed emptied k emptied_names) (ups_changed emptied k emptied_ups) s
 
 pub sound_without : (k : Conn) (w : Work) → IsIdle (stage_of k w.hub.connections) → Sound w.hub → Sound (with_connections (without_connection k) w).hub
@@ -57,10 +57,10 @@ sound_without k w free s = record {
 }
 
 -- a connection that ended has no client
-pub ended_idle : (k : Conn) (fits : Bool) (w : Work) → IsIdle (stage_of k (ended_open k (is_open (stage_of k w.hub.connections)) fits w).hub.connections)
+pub ended_idle : (k : Conn) (fits : Bool) (w : Work) → IsIdle (stage_of k (close_if_open k (is_open (stage_of k w.hub.connections)) fits w).hub.connections)
 ended_idle k fits w = go (stage_of k w.hub.connections) refl
   where
-    go : (s : ConnectionState) → stage_of k w.hub.connections ≡ s → IsIdle (stage_of k (ended_open k (is_open s) fits w).hub.connections)
+    go : (s : ConnectionState) → stage_of k w.hub.connections ≡ s → IsIdle (stage_of k (close_if_open k (is_open s) fits w).hub.connections)
     go AwaitingConnect e = subst IsIdle (sym (closed_shut k PeerEnded fits w)) (λ c. refl)
     go (ConnectedAs key terms last_activity) e = subst IsIdle (sym (closed_shut k PeerEnded fits w)) (λ c. refl)
     go Closed e = subst IsIdle (sym e) (λ c. refl)

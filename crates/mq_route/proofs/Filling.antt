@@ -40,8 +40,8 @@ use Rattle.mq_route.specs.Copies.{retained_for}
 use Rattle.mq_route.specs.Routed.{Seen, seen, seen_after, routes, routed_from, copies_for}
 use Rattle.mq_route.specs.Hub.{HubState, HubSession, new_hub, stage_of, is_open, key_on, held_on, end_of, for_key}
 use Rattle.mq_route.specs.Work.{Work, begin, put_on, does, drops_copies, leaves, needs, needed_bytes, fits_in, all_fit, have_room, retained_copies, close}
-use Rattle.mq_route.specs.Arrives.{Growth, due, due_by, touched, touched_on, answers_all, replies, on_passed_packet, is_too_broad, dispatch_packet, arrives, takes}
-use Rattle.mq_route.specs.Step.{holding, Comes, Arrives, Waits, Breaks, Starves, LetsGo, Does, event_refusal, told}
+use Rattle.mq_route.specs.Arrives.{Growth, due, due_by, touched, touched_on, answers_all, replies, on_passed_packet, is_too_broad, dispatch_packet, arrives, on_packet}
+use Rattle.mq_route.specs.Step.{holding, OnBytes, Arrives, Waits, Breaks, Starves, LetsGo, Does, event_refusal, with_clock}
 use Rattle.mq_route.specs.Runs.{Episode, Follows, acts_of}
 use Rattle.mq_route.specs.Laws.{for_client}
 use Rattle.mq_route.specs.Full.{if_full, full_closes, IsPublishOrSubscribe, asked_by, asked, identifiers_for, bytes_for, IsShortOf, IsAmong, IsTooMuch, ComesTooMuch, IsFullEvent, FullLaws}
@@ -252,8 +252,8 @@ dispatch_full k p fits (ConnectedAs key terms last_activity) now w s none x e =
     (λ narrow. replies_full k key p fits w s none short (server_gets p (end_of key w.hub.sessions)).close)
 dispatch_full k p fits Closed now w s none x e = absurd cc
 
-takes_full : (k : Conn) (p : Packet) (g : Growth) (w : Work) → Sound w.hub → full_closes w.did ≡ [] → IsFull k p (touched_on k w) → Leaves k (takes k p g w)
-unfolding takes arrives
+takes_full : (k : Conn) (p : Packet) (g : Growth) (w : Work) → Sound w.hub → full_closes w.did ≡ [] → IsFull k p (touched_on k w) → Leaves k (on_packet k p g w)
+unfolding on_packet arrives
 takes_full k p g w s none x =
     cond_both g.fits (dispatch_packet k p g.will_fits (stage_of k w.hub.connections) (touched_on k w)) (close k (Own reasons.Memory) g.will_fits w) (Leaves k)
     (λ fits. dispatch_full k p g.will_fits (stage_of k w.hub.connections) w.hub.clock (touched_on k w)
@@ -261,7 +261,7 @@ takes_full k p g w s none x =
     (λ starved. own_close k reasons.Memory g.will_fits w s none)
 
 -- a closed connection ignores the bytes that follow
-pub lets_go : (limits : Bounds) (k : Conn) (b : List ℕ) (w w2 : Work) → Comes limits k b w w2 → stage_of k w.hub.connections ≡ Closed → w2 ≡ w
+pub lets_go : (limits : Bounds) (k : Conn) (b : List ℕ) (w w2 : Work) → OnBytes limits k b w w2 → stage_of k w.hub.connections ≡ Closed → w2 ≡ w
 lets_go limits k b w w2 (Arrives p first rest g v v2 on reads more) e = absurd (true≢false (sym on ∙ ap is_open e))
 lets_go limits k b w w2 (Waits c v on pending) e = absurd (true≢false (sym on ∙ ap is_open e))
 lets_go limits k b w w2 (Breaks c fault fits v on faulty) e = absurd (true≢false (sym on ∙ ap is_open e))
@@ -281,7 +281,7 @@ module _ (store : StoreLaws) (log : List Act) (config : HubConfig) where
   abbrev Told : Work → Type 0
   Told w = routing.Tells store (routing.unseen store) log nothing w × (w.hub.config ≡ config)
 
-  too_much : (k : Conn) (p : Packet) (g : Growth) (w : Work) → Told w → IsFull k p (touched_on k w) → full_closes w.did ≡ [] → full_closes (takes k p g w).did ≡ k ∷ [] → IsTooMuch log config k p g w
+  too_much : (k : Conn) (p : Packet) (g : Growth) (w : Work) → Told w → IsFull k p (touched_on k w) → full_closes w.did ≡ [] → full_closes (on_packet k p g w).did ≡ k ∷ [] → IsTooMuch log config k p g w
   too_much k p g w told x none closes =
       let u = touched_on k w in
       let happenings = (server_gets p (end_of x.key u.hub.sessions)).happenings in
@@ -306,7 +306,7 @@ module _ (store : StoreLaws) (log : List Act) (config : HubConfig) where
       let u = touched_on k w in
       subst (λ (c : HubConfig). c.when_full ≡ ClosePublisher) same (short_parts (due x.key u.hub (server_gets p (end_of x.key u.hub.sessions)).happenings) u.hub x.short).0
 
-  few_comes : (limits : Bounds) (k : Conn) (b : List ℕ) (w w2 : Work) (c : Comes limits k b w w2) → Sound w.hub → Told w → full_closes w.did ≡ []
+  few_comes : (limits : Bounds) (k : Conn) (b : List ℕ) (w w2 : Work) (c : OnBytes limits k b w w2) → Sound w.hub → Told w → full_closes w.did ≡ []
       → (full_closes w2.did ≡ []) ⊎ ((config.when_full ≡ ClosePublisher) × (full_closes w2.did ≡ k ∷ []) × ComesTooMuch log config limits k b w w2 c)
   few_comes limits k b w w2 (Arrives p first rest g v v2 on reads more) s told none =
       let X : Type 0 = IsFull k p (touched_on k v) in
@@ -314,10 +314,10 @@ module _ (store : StoreLaws) (log : List Act) (config : HubConfig) where
       ((λ key up state short. inr (record { key = key; up = up; state = state; short = short })), (λ key up broad. inl (λ k. refl))) (s, inl none) in
       let a = takes_both (routing.Tells store (routing.unseen store) log) Freely Anywhere (routing.inner store (routing.unseen store) log) (routing.outer store (routing.unseen store) log) freely anywhere k p g v tt tt ((λ key up state short. tt), (λ key up broad. tt)) (s, told.0) in
       let same = takes_both (reading.Same config) Freely Anywhere (reading.same_inner config) (reading.same_outer config) freely anywhere k p g v tt tt ((λ key up state short. tt), (λ key up broad. tt)) (s, told.1) in
-      go t.1 (λ none. few_comes limits k rest (takes k p g v) v2 more t.0 (a.1, same.1) none)
+      go t.1 (λ none. few_comes limits k rest (on_packet k p g v) v2 more t.0 (a.1, same.1) none)
     where
       now : Work
-      now = takes k p g v
+      now = on_packet k p g v
 
       Ends : Type 0
       Ends = (full_closes v2.did ≡ []) ⊎ ((config.when_full ≡ ClosePublisher) × (full_closes v2.did ≡ k ∷ []) × (IsTooMuch log config k p g v ⊎ ComesTooMuch log config limits k rest now v2 more))
@@ -353,7 +353,7 @@ module _ (store : StoreLaws) (log : List Act) where
       inl (ap (λ (w : Work). full_closes w.did) d.1
       ∙ only (ended_both (Few if_full [] ⊥) (May if_full ⊥) Anywhere (inner if_full [] ⊥) (outer if_full [] ⊥) (ways ⊥) anywhere k (is_open (stage_of k h.connections)) d.0 (begin h) tt (s, inl refl)).1)
   few_event h (Tick now) r w d s a =
-      inl (only (tick_both (Few if_full [] ⊥) (May if_full ⊥) Anywhere (inner if_full [] ⊥) (outer if_full [] ⊥) (ways ⊥) anywhere (λ fits w. tt) (inl (λ k. refl)) (told now h) w d.0 (s, inl refl)).1)
+      inl (only (tick_both (Few if_full [] ⊥) (May if_full ⊥) Anywhere (inner if_full [] ⊥) (outer if_full [] ⊥) (ways ⊥) anywhere (λ fits w. tt) (inl (λ k. refl)) (with_clock now h) w d.0 (s, inl refl)).1)
   few_event h (Collect k) r w d s a = inl (ap (λ (w : Work). full_closes w.did) d.0)
 
 -- under DropCopy no event is too much

@@ -30,9 +30,9 @@ use Rattle.mq_route.specs.declared.connection_state.ConnectionState.TheVariants.
 use Rattle.mq_route.specs.Copies.{will_message, kept}
 use Rattle.mq_route.specs.Hub.{HubState, HubConnection, stage_of, is_open, key_on, held_on, up_on, key_of, end_of, with_end, copies_of}
 use Rattle.mq_route.specs.Welcome.{client_of, ends_with, refusal}
-use Rattle.mq_route.specs.Work.{Work, begin, said, with_sessions, staged, shut, put_on, put_where, does, publishes_next, is_missed, place, place_all, have_room, deliver, remove, last_will, will_after, remove_if, leaves_behind, shut_down, close, subscribed, unsubscribed, retained_copies}
-use Rattle.mq_route.specs.Arrives.{Growth, granted, due, answers, answers_all, replies, greeting, terms_of, resume_session, new_session, start_session, take_over, goes_on, accept_connect, on_connect, on_first_packet, on_passed_packet, is_too_broad, dispatch_packet, touched_on, arrives, noted, takes, closes_by, broken, on_malformed}
-use Rattle.mq_route.specs.Step.{holding, Comes, Arrives, Waits, Breaks, Starves, LetsGo, Ticks, Done, InTime, Late, Does, ended_open, expired_keys, remove_all, expire, told}
+use Rattle.mq_route.specs.Work.{Work, begin, said, with_sessions, staged, shut, put_on, put_where, does, publishes_next, is_missed, enqueue, enqueue_all, have_room, deliver, remove, last_will, will_after, remove_if, leaves_behind, shut_down, close, subscribed, unsubscribed, retained_copies}
+use Rattle.mq_route.specs.Arrives.{Growth, granted, due, answers, answers_all, replies, greeting, terms_of, resume_session, new_session, start_session, take_over, goes_on, accept_connect, on_connect, on_first_packet, on_passed_packet, is_too_broad, dispatch_packet, touched_on, arrives, noted, on_packet, closes_by, broken, on_malformed}
+use Rattle.mq_route.specs.Step.{holding, OnBytes, Arrives, Waits, Breaks, Starves, LetsGo, OnTick, Done, InTime, Late, Does, close_if_open, expired_keys, remove_all, expire, with_clock}
 use Rattle.mq_route.specs.Reading.{logged_in, logged_by}
 
 put_logs : (to : Option Conn) (ps : List Packet) (w : Work) → (put_where to ps w).came ≡ w.came
@@ -45,14 +45,14 @@ unfolding does
 does_logs key move w =
     put_logs (up_on key w.hub.connections) (move (end_of key w.hub.sessions)).out (with_sessions (with_end key (move (end_of key w.hub.sessions)).end) w)
 
-place_logs : (key : ℕ) (m : Message) (w : Work) → (place key m w).came ≡ w.came
-unfolding place
+place_logs : (key : ℕ) (m : Message) (w : Work) → (enqueue key m w).came ≡ w.came
+unfolding enqueue
 place_logs key m w =
     cond_both (is_missed key m w.hub) (said (acts.Missed key m) w) (said (acts.Placed key m) (does key (publishes_next m) w)) (λ v. v.came ≡ w.came) (λ is. refl) (λ is. does_logs key (publishes_next m) w)
 
-places_log : (copies : List (ℕ × Message)) (w : Work) → (place_all copies w).came ≡ w.came
+places_log : (copies : List (ℕ × Message)) (w : Work) → (enqueue_all copies w).came ≡ w.came
 places_log [] w = refl
-places_log (x ∷ xs) w = places_log xs (place x.0 x.1 w) ∙ place_logs x.0 x.1 w
+places_log (x ∷ xs) w = places_log xs (enqueue x.0 x.1 w) ∙ place_logs x.0 x.1 w
 
 deliver_logs : (act : Act) (m : Message) (w : Work) → (deliver act m w).came ≡ w.came
 unfolding deliver
@@ -170,8 +170,8 @@ arrives_log k p g w =
     (λ fits. dispatch_logs k p g.will_fits s (touched_on k w)) (λ starved. close_logs k (Own reasons.Memory) g.will_fits w)
 
 takes_log : (k : Conn) (p : Packet) (g : Growth) (w : Work)
-    → (takes k p g w).came ≡ w.came ++ noted (key_on (stage_of k w.hub.connections)) (is_open (stage_of k (takes k p g w).hub.connections)) p
-unfolding takes
+    → (on_packet k p g w).came ≡ w.came ++ noted (key_on (stage_of k w.hub.connections)) (is_open (stage_of k (on_packet k p g w).hub.connections)) p
+unfolding on_packet
 takes_log k p g w =
     let n = noted (key_on (stage_of k w.hub.connections)) (is_open (stage_of k (arrives k p g w).hub.connections)) p in
     ap (λ (l : List (ℕ × Packet)). l ++ n) (arrives_log k p g w)
@@ -186,17 +186,17 @@ malformed_logs k fault fits w = go (broken k fault w).close
 
 -- ---- events
 
-comes_log : (limits : Bounds) (k : Conn) (b : List ℕ) (w w2 : Work) (c : Comes limits k b w w2) → w2.came ≡ w.came ++ logged_in limits k b w w2 c
+comes_log : (limits : Bounds) (k : Conn) (b : List ℕ) (w w2 : Work) (c : OnBytes limits k b w w2) → w2.came ≡ w.came ++ logged_in limits k b w w2 c
 comes_log limits k b w w2 (Arrives p first rest g v v2 on reads more) =
-    let n = noted (key_on (stage_of k v.hub.connections)) (is_open (stage_of k (takes k p g v).hub.connections)) p in
-    let later = logged_in limits k rest (takes k p g v) v2 more in
-    comes_log limits k rest (takes k p g v) v2 more ∙ ap (λ (l : List (ℕ × Packet)). l ++ later) (takes_log k p g v) ∙ append_assoc v.came n later
+    let n = noted (key_on (stage_of k v.hub.connections)) (is_open (stage_of k (on_packet k p g v).hub.connections)) p in
+    let later = logged_in limits k rest (on_packet k p g v) v2 more in
+    comes_log limits k rest (on_packet k p g v) v2 more ∙ ap (λ (l : List (ℕ × Packet)). l ++ later) (takes_log k p g v) ∙ append_assoc v.came n later
 comes_log limits k b w w2 (Waits c v on pending) = sym (append-nil v.came)
 comes_log limits k b w w2 (Breaks c fault fits v on faulty) = malformed_logs k fault fits v ∙ sym (append-nil v.came)
 comes_log limits k b w w2 (Starves c fits v on some) = close_logs k (Own reasons.Memory) fits v ∙ sym (append-nil v.came)
 comes_log limits k b w w2 (LetsGo c v closed) = sym (append-nil v.came)
 
-ticks_log : (within : Option ℕ) (now : ℕ) (xs : List HubConnection) (w w2 : Work) → Ticks within now xs w w2 → w2.came ≡ w.came
+ticks_log : (within : Option ℕ) (now : ℕ) (xs : List HubConnection) (w w2 : Work) → OnTick within now xs w w2 → w2.came ≡ w.came
 ticks_log within now xs w w2 (Done v) = refl
 ticks_log within now xs w w2 (InTime x ys v v2 soon more) = ticks_log within now ys v v2 more
 ticks_log within now xs w w2 (Late x ys why fits v v2 late more) = ticks_log within now ys (close x.conn why fits v) v2 more ∙ close_logs x.conn why fits v
@@ -209,7 +209,7 @@ expire_logs : (h : HubState) → (expire h).came ≡ []
 unfolding expire
 expire_logs h = remove_all_logs (expired_keys h) (begin h)
 
-ended_logs : (k : Conn) (alive fits : Bool) (w : Work) → (ended_open k alive fits w).came ≡ w.came
+ended_logs : (k : Conn) (alive fits : Bool) (w : Work) → (close_if_open k alive fits w).came ≡ w.came
 ended_logs k true fits w = close_logs k PeerEnded fits w
 ended_logs k false fits w = refl
 
@@ -217,5 +217,5 @@ pub logs_event : (h : HubState) (e : HubEvent) (r : HubReply) (w : Work) (d : Do
 logs_event h (Opened k) r w d = ap (λ (w : Work). w.came) d.0
 logs_event h (Bytes k piece) r w d = comes_log h.config.limits k (held_on k h.connections ++ piece) (holding k [] (begin h)) w d.0
 logs_event h (Ended k) r w d = ap (λ (w : Work). w.came) d.1 ∙ ended_logs k (is_open (stage_of k h.connections)) d.0 (begin h)
-logs_event h (Tick now) r w d = ticks_log h.config.connect_within (max h.clock now) h.connections (expire (told now h)) w d.0 ∙ expire_logs (told now h)
+logs_event h (Tick now) r w d = ticks_log h.config.connect_within (max h.clock now) h.connections (expire (with_clock now h)) w d.0 ∙ expire_logs (with_clock now h)
 logs_event h (Collect k) r w d = ap (λ (w : Work). w.came) d.0

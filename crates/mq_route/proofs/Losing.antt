@@ -27,9 +27,9 @@ use Rattle.mq_route.specs.Routed.{same_conn}
 use Rattle.mq_route.specs.Copies.{will_message, copy_by, is_hidden_name}
 use Rattle.mq_route.specs.Hub.{HubState, HubConnection, new_hub, is_connection, is_for, changed, stage_of, is_open, held_on, up_on, end_of, with_end, without_session, for_key, copies_of}
 use Rattle.mq_route.specs.Work.{Work, begin, said, with_sessions, staged, shut, put_on, put_where, does, drops_copies, fits_in, all_fit, have_room, remove, remove_if, will_after, close}
-use Rattle.mq_route.specs.Arrives.{new_session, touched, touched_on, takes}
-use Rattle.mq_route.specs.Step.{holding, Comes, Arrives, Waits, Breaks, Starves, LetsGo, Ticks, Done, InTime, Late, Does, expired_keys, remove_all, expire, told}
-use Rattle.mq_route.specs.Dropped.{dropped_by, dropped, is_in, LosesWill, ComesLosing, TicksLosing, IsLosingEvent, WillLaws}
+use Rattle.mq_route.specs.Arrives.{new_session, touched, touched_on, on_packet}
+use Rattle.mq_route.specs.Step.{holding, OnBytes, Arrives, Waits, Breaks, Starves, LetsGo, OnTick, Done, InTime, Late, Does, expired_keys, remove_all, expire, with_clock}
+use Rattle.mq_route.specs.Dropped.{dropped_by, dropped, is_in, LosesWill, OnBytesLosing, OnTickLosing, IsLosingEvent, WillLaws}
 use Rattle.mq_route.proofs.Lines.{one_conn, Names, Ups, grown, names_changed, ups_changed, stage_there}
 use Rattle.mq_route.proofs.Changes.{Debt, owes, nothing, Freely, freely, Anywhere, anywhere, Everywhere, Inner, sent_where, Outer, Nearby, IsShort, Sound, sound_holding, closing, rising, closed_line, names_grown, ups_grown}
 use Rattle.mq_route.proofs.Frames.{stage_firm}
@@ -269,21 +269,21 @@ module _ (config : HubConfig) (fits : Bool) (w : Work) (is : w.hub.config ≡ co
     rises = λ k key terms last_activity move present v own s known free none there up clean received plain r. rises_few k key terms last_activity move present v r;
   }
 
-few_comes : (config : HubConfig) (limits : Bounds) (k : Conn) (b : List ℕ) (w w2 : Work) (comes : Comes limits k b w w2) → Sound w.hub → w.hub.config ≡ config → (c : ℕ) → is_in c (dropped w2.did) ≡ true
-    → (is_in c (dropped w.did) ≡ true) ⊎ ComesLosing config.when_full c limits k b w w2 comes
+few_comes : (config : HubConfig) (limits : Bounds) (k : Conn) (b : List ℕ) (w w2 : Work) (comes : OnBytes limits k b w w2) → Sound w.hub → w.hub.config ≡ config → (c : ℕ) → is_in c (dropped w2.did) ≡ true
+    → (is_in c (dropped w.did) ≡ true) ⊎ OnBytesLosing config.when_full c limits k b w w2 comes
 few_comes config limits k b w w2 (Arrives p first rest g v v2 on reads more) s is c i =
     let f = g.will_fits in
     let t = takes_both (Few config f v is) Freely (IsNear f v) (inner config f v is) (outer config f v is) freely (nearby f v) k p g v tt (at_itself f v) ((λ key up state short. tt), (λ key up broad. tt)) (s, λ c i. inl i) in
     let same = takes_both (reading.Same config) Freely Anywhere (reading.same_inner config) (reading.same_outer config) freely anywhere k p g v tt tt ((λ key up state short. tt), (λ key up broad. tt)) (s, is) in
-    go (t.1 c) (few_comes config limits k rest (takes k p g v) v2 more t.0 same.1 c i)
+    go (t.1 c) (few_comes config limits k rest (on_packet k p g v) v2 more t.0 same.1 c i)
   where
     Loses : Type 0
     Loses = LosesWill config.when_full c g.will_fits v
 
     More : Type 0
-    More = ComesLosing config.when_full c limits k rest (takes k p g v) v2 more
+    More = OnBytesLosing config.when_full c limits k rest (on_packet k p g v) v2 more
 
-    go : (is_in c (dropped (takes k p g v).did) ≡ true → (is_in c (dropped v.did) ≡ true) ⊎ Loses) → (is_in c (dropped (takes k p g v).did) ≡ true) ⊎ More
+    go : (is_in c (dropped (on_packet k p g v).did) ≡ true → (is_in c (dropped v.did) ≡ true) ⊎ Loses) → (is_in c (dropped (on_packet k p g v).did) ≡ true) ⊎ More
         → (is_in c (dropped v.did) ≡ true) ⊎ (Loses ⊎ More)
     go here (inr x) = inr (inr x)
     go here (inl old) = now (here old)
@@ -298,8 +298,8 @@ few_comes config limits k b w w2 (Starves c fits v on some) s is n i =
     (close_both (Few config fits v is) Freely (IsNear fits v) (inner config fits v is) (outer config fits v is) freely (nearby fits v) k (Own reasons.Memory) fits v (at_itself fits v) tt (s, λ c i. inl i)).1 n i
 few_comes config limits k b w w2 (LetsGo c v closed) s is n i = inl i
 
-few_ticks : (config : HubConfig) (within : Option ℕ) (now : ℕ) (xs : List HubConnection) (w w2 : Work) (t : Ticks within now xs w w2) → Sound w.hub → w.hub.config ≡ config → (c : ℕ) → is_in c (dropped w2.did) ≡ true
-    → (is_in c (dropped w.did) ≡ true) ⊎ TicksLosing config.when_full c within now xs w w2 t
+few_ticks : (config : HubConfig) (within : Option ℕ) (now : ℕ) (xs : List HubConnection) (w w2 : Work) (t : OnTick within now xs w w2) → Sound w.hub → w.hub.config ≡ config → (c : ℕ) → is_in c (dropped w2.did) ≡ true
+    → (is_in c (dropped w.did) ≡ true) ⊎ OnTickLosing config.when_full c within now xs w w2 t
 few_ticks config within now xs w w2 (Done v) s is c i = inl i
 few_ticks config within now xs w w2 (InTime x ys v v2 soon more) s is c i = few_ticks config within now ys v v2 more s is c i
 few_ticks config within now xs w w2 (Late x ys why fits v v2 late more) s is c i =
@@ -314,7 +314,7 @@ few_ticks config within now xs w w2 (Late x ys why fits v v2 late more) s is c i
     Loses = LosesWill config.when_full c fits v
 
     More : Type 0
-    More = TicksLosing config.when_full c within now ys u v2 more
+    More = OnTickLosing config.when_full c within now ys u v2 more
 
     go : (is_in c (dropped u.did) ≡ true → (is_in c (dropped v.did) ≡ true) ⊎ Loses) → (is_in c (dropped u.did) ≡ true) ⊎ More → (is_in c (dropped v.did) ≡ true) ⊎ (Loses ⊎ More)
     go here (inr x) = inr (inr x)
@@ -346,7 +346,7 @@ few_event : (h : HubState) (e : HubEvent) (r : HubReply) (w : Work) (d : Does h 
 few_event h (Opened k) r w d s c i = absurd (true≢false (sym i ∙ ap (λ (w : Work). is_in c (dropped w.did)) d.0))
 few_event h (Bytes k piece) r w d s c i =
     let start = holding k [] (begin h) in
-    none_yet (ComesLosing h.config.when_full c h.config.limits k (held_on k h.connections ++ piece) start w d.0)
+    none_yet (OnBytesLosing h.config.when_full c h.config.limits k (held_on k h.connections ++ piece) start w d.0)
     (few_comes h.config h.config.limits k (held_on k h.connections ++ piece) start w d.0 (sound_holding k [] (begin h) s) refl c i)
 few_event h (Ended k) r w d s c i =
     let f = d.0 in
@@ -354,13 +354,13 @@ few_event h (Ended k) r w d s c i =
     let end = ended_both (Few h.config f b refl) Freely (IsNear f b) (inner h.config f b refl) (outer h.config f b refl) freely (nearby f b) k (is_open (stage_of k h.connections)) f b (at_itself f b) (s, λ c i. inl i) in
     none_yet (LosesWill h.config.when_full c f b) (end.1 c (subst (λ (w : Work). is_in c (dropped w.did) ≡ true) d.1 i))
 few_event h (Tick now) r w d s c i =
-    let v = expire (told now h) in
-    let start = expire_both (reading.Same h.config) Freely Anywhere (reading.same_inner h.config) (reading.same_outer h.config) freely anywhere (told now h) (s, refl) in
-    go (TicksLosing h.config.when_full c h.config.connect_within (max h.clock now) h.connections v w d.0)
+    let v = expire (with_clock now h) in
+    let start = expire_both (reading.Same h.config) Freely Anywhere (reading.same_inner h.config) (reading.same_outer h.config) freely anywhere (with_clock now h) (s, refl) in
+    go (OnTickLosing h.config.when_full c h.config.connect_within (max h.clock now) h.connections v w d.0)
     (few_ticks h.config h.config.connect_within (max h.clock now) h.connections v w d.0 start.0 start.1 c i)
   where
-    go : (A : Type 0) → (is_in c (dropped (expire (told now h)).did) ≡ true) ⊎ A → A
-    go A (inl e) = absurd (true≢false (sym e ∙ ap (is_in c) (dropped_expired (told now h))))
+    go : (A : Type 0) → (is_in c (dropped (expire (with_clock now h)).did) ≡ true) ⊎ A → A
+    go A (inl e) = absurd (true≢false (sym e ∙ ap (is_in c) (dropped_expired (with_clock now h))))
     go A (inr x) = x
 few_event h (Collect k) r w d s c i = absurd (true≢false (sym i ∙ ap (λ (w : Work). is_in c (dropped w.did)) d.0))
 

@@ -22,7 +22,7 @@ use Rattle.mq_route.specs.Routed.{placed_by, placed, missed_by, missed, marked_b
 use Rattle.mq_route.specs.Hub.{HubState, stage_of, is_open, held_on, up_on, end_of, with_end}
 use Rattle.mq_route.specs.Work.{Work, begin, said, with_sessions, staged, shut, put_on, put_where, does, drops_copies, leaves, lacks_room, pending_on, publish_bytes, is_missed, all_fit, have_room, remove, remove_if}
 use Rattle.mq_route.specs.Arrives.{new_session}
-use Rattle.mq_route.specs.Step.{Does, told, holding}
+use Rattle.mq_route.specs.Step.{Does, with_clock, holding}
 use Rattle.mq_route.specs.Runs.{Episode, Follows, acts_of}
 use Rattle.mq_route.proofs.Changes.{Freely, freely, Anywhere, anywhere, Debt, owes, nothing, Everywhere, Inner, Sends, sent_where, Outer, Sound, closing, rising}
 use Rattle.mq_route.proofs.Steps.{comes_both, holding_both, tick_both, ended_both}
@@ -163,7 +163,7 @@ module _ (config : HubConfig) (keep : drops_copies config.when_full ≡ false) (
       let end = ended_both Calm Freely Anywhere inner outer freely anywhere k (is_open (stage_of k h.connections)) d.0 (begin h) tt (s, (same, λ c. refl)) in
       subst (Calm nothing) (sym d.1) (end.1.0, end.1.1)
   calm_event h (Tick now) r w d s same =
-      (tick_both Calm Freely Anywhere inner outer freely anywhere (λ fits w. tt) tt (told now h) w d.0 (s, (same, λ c. refl))).1
+      (tick_both Calm Freely Anywhere inner outer freely anywhere (λ fits w. tt) tt (with_clock now h) w d.0 (s, (same, λ c. refl))).1
   calm_event h (Collect k) r w d s same = subst (Calm nothing) (sym d.0) (same, λ c. refl)
 
   pub none_run : (es : List Episode) (h h2 : HubState) → Follows h es h2 → Sound h → h.config ≡ config → NoMiss (acts_of es)

@@ -17,7 +17,7 @@ use Rattle.mq_route.specs.Routed.{same_conn}
 use Rattle.mq_route.specs.Hub.{HubState, HubConnection, is_connection, knows, waiting_on, stage_of, changed, with_connection, without_connection, is_open, held_on, up_on, end_of, with_end}
 use Rattle.mq_route.specs.Work.{Work, begin, said, with_sessions, staged, shut, put_on, does, remove, remove_if, close}
 use Rattle.mq_route.specs.Arrives.{new_session}
-use Rattle.mq_route.specs.Step.{Does, event_refusal, opened, ended, ended_open, collected, expire, told, holding}
+use Rattle.mq_route.specs.Step.{Does, event_refusal, on_open, on_end, close_if_open, on_collect, expire, with_clock, holding}
 use Rattle.mq_route.specs.Runs.{Episode, Follows, Stays, ends_it, collects, written_by, written, sent_in, on_conn}
 use Rattle.mq_route.proofs.Lines.{one_conn, Names, Bytes as BytesStay, grown, names_changed, bytes_changed, knows_map, waiting_map, put_here, put_there}
 use Rattle.mq_route.proofs.Uppers.{newcomer, risen}
@@ -220,10 +220,10 @@ begins_at n h known = (known, sym (append-nil (waiting_on n h.connections)))
 grew : (n : Conn) (h : HubState) (e : HubEvent) (r : HubReply) (w : Work) → cond (collects n e) r.output [] ≡ [] → Sound w.hub → Grows n (waiting_on n h.connections) nothing w → Leaves n h e r w
 grew n h e r w none s g = (s, g.0, ap (λ (b : List ℕ). b ++ waiting_on n w.hub.connections) none ∙ g.1)
 
-collected_leaves : (n k : Conn) (h : HubState) (r : HubReply) → r.output ≡ waiting_on k h.connections → Sound h → knows n h.connections ≡ true → Leaves n h (Collect k) r (begin (collected k h))
+collected_leaves : (n k : Conn) (h : HubState) (r : HubReply) → r.output ≡ waiting_on k h.connections → Sound h → knows n h.connections ≡ true → Leaves n h (Collect k) r (begin (on_collect k h))
 collected_leaves n k h r out s known = (sound_collected k h s, knows_map (changed emptied k) (names_changed emptied k (λ x. refl)) n h.connections ∙ known, go (same_conn k n) refl)
   where
-    go : (b : Bool) → same_conn k n ≡ b → cond (same_conn k n) r.output [] ++ waiting_on n (collected k h).connections ≡ waiting_on n h.connections ++ []
+    go : (b : Bool) → same_conn k n ≡ b → cond (same_conn k n) r.output [] ++ waiting_on n (on_collect k h).connections ≡ waiting_on n h.connections ++ []
     go true e =
         ap₂ (λ (a b : List ℕ). a ++ b) (cond-true (same_conn k n) r.output [] e ∙ out ∙ ap (λ (j : Conn). waiting_on j h.connections) (one_conn k n e))
         (ap (λ (j : Conn). waiting_on n (with_connection emptied j h.connections)) (one_conn k n e) ∙ emptied_here n h.connections)
@@ -233,7 +233,7 @@ collected_leaves n k h r out s known = (sound_collected k h s, knows_map (change
 pub leaves : (n : Conn) (h : HubState) (e : HubEvent) (r : HubReply) (w : Work) → event_refusal e h ≡ None → Does h e r w → ends_it n e ≡ false → Sound h → knows n h.connections ≡ true → Leaves n h e r w
 leaves n h (Opened k) r w right d stays s known =
     subst (Leaves n h (Opened k) r) (sym d.0)
-    (grew n h (Opened k) r (begin (opened k h)) refl (sound_opened k h (not_known k h right) s)
+    (grew n h (Opened k) r (begin (on_open k h)) refl (sound_opened k h (not_known k h right) s)
     (knows_opened n k h.clock h.connections known, waiting_opened n k h.clock h.connections known ∙ sym (append-nil (waiting_on n h.connections))))
 leaves n h (Bytes k piece) r w right d stays s known =
     let base = waiting_on n h.connections in
@@ -244,13 +244,13 @@ leaves n h (Ended k) r w right d stays s known =
     let base = waiting_on n h.connections in
     let fits = d.0 in
     let end = ended_both (Grows n base) Freely Anywhere (inner n base) (outer n base) freely anywhere k (is_open (stage_of k h.connections)) fits (begin h) tt (s, begins_at n h known) in
-    let v = ended_open k (is_open (stage_of k h.connections)) fits (begin h) in
+    let v = close_if_open k (is_open (stage_of k h.connections)) fits (begin h) in
     let kept = kept_line n k stays v.hub.connections in
     subst (Leaves n h (Ended k) r) (sym d.1)
-    (grew n h (Ended k) r (ended k fits h) refl (sound_without k v (ended_idle k fits (begin h)) end.0) (kept.0 ∙ end.1.0, kept.1 ∙ end.1.1))
+    (grew n h (Ended k) r (on_end k fits h) refl (sound_without k v (ended_idle k fits (begin h)) end.0) (kept.0 ∙ end.1.0, kept.1 ∙ end.1.1))
 leaves n h (Tick now) r w right d stays s known =
     let base = waiting_on n h.connections in
-    let end = tick_both (Grows n base) Freely Anywhere (inner n base) (outer n base) freely anywhere (λ fits w. tt) tt (told now h) w d.0 (s, begins_at n h known) in
+    let end = tick_both (Grows n base) Freely Anywhere (inner n base) (outer n base) freely anywhere (λ fits w. tt) tt (with_clock now h) w d.0 (s, begins_at n h known) in
     grew n h (Tick now) r w refl end.0 end.1
 leaves n h (Collect k) r w right d stays s known =
     subst (Leaves n h (Collect k) r) (sym d.0) (collected_leaves n k h r (ap (λ (r : HubReply). r.output) d.1) s known)
@@ -262,9 +262,9 @@ pub sound_event : (h : HubState) (e : HubEvent) (r : HubReply) (w : Work) → ev
 sound_event h (Opened k) r w right d s = subst (λ (w : Work). Sound w.hub) (sym d.0) (sound_opened k h (not_known k h right) s)
 sound_event h (Bytes k piece) r w right d s = (comes_both Any Freely Anywhere any_inner any_outer freely anywhere (λ fits w. tt) (tt, tt) h.config.limits k tt (λ b v r. tt) (held_on k h.connections ++ piece) (holding k [] (begin h)) w d.0 (holding_both Any Freely Anywhere any_inner any_outer freely anywhere k [] (begin h) (λ r. tt) (s, tt))).0
 sound_event h (Ended k) r w right d s =
-    let v = ended_open k (is_open (stage_of k h.connections)) d.0 (begin h) in
+    let v = close_if_open k (is_open (stage_of k h.connections)) d.0 (begin h) in
     subst (λ (w : Work). Sound w.hub) (sym d.1) (sound_without k v (ended_idle k d.0 (begin h)) (ended_both Any Freely Anywhere any_inner any_outer freely anywhere k (is_open (stage_of k h.connections)) d.0 (begin h) tt (s, tt)).0)
-sound_event h (Tick now) r w right d s = (tick_both Any Freely Anywhere any_inner any_outer freely anywhere (λ fits w. tt) tt (told now h) w d.0 (s, tt)).0
+sound_event h (Tick now) r w right d s = (tick_both Any Freely Anywhere any_inner any_outer freely anywhere (λ fits w. tt) tt (with_clock now h) w d.0 (s, tt)).0
 sound_event h (Collect k) r w right d s = subst (λ (w : Work). Sound w.hub) (sym d.0) (sound_collected k h s)
 
 pub sound_close : (k : Conn) (why : HubClose) (fits : Bool) (w : Work) → Sound w.hub → Sound (close k why fits w).hub

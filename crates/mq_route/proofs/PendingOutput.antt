@@ -32,7 +32,7 @@ use Rattle.mq_route.specs.Hub.{HubState, HubConnection, knows, waiting_on, stage
 use Rattle.mq_route.specs.Laws.{is_no_plain_publish}
 use Rattle.mq_route.specs.Work.{Work, begin, said, with_connections, with_sessions, staged, shut, put_on, put_where, does, publishes_next, leaves, pending_on, publish_bytes, lacks_output, remove, remove_if}
 use Rattle.mq_route.specs.Arrives.{new_session}
-use Rattle.mq_route.specs.Step.{Does, ended_open, told, holding}
+use Rattle.mq_route.specs.Step.{Does, close_if_open, with_clock, holding}
 use Rattle.mq_route.specs.Runs.{Episode, Follows, Stays, ends_it, sent_in, on_conn}
 use Rattle.mq_route.proofs.Lines.{one_conn, Names, Bytes as BytesStay, grown, names_changed, bytes_changed, knows_map, waiting_map, put_here, put_there}
 use Rattle.mq_route.proofs.Uppers.{risen}
@@ -274,7 +274,7 @@ module _ (n : Conn) (most base : ℕ) (low : most ≤ base) where
       (comes_both Bounds Freely Anywhere inner outer freely anywhere (λ fits w. tt) (tt, tt) h.config.limits k tt (holds k) (held_on k h.connections ++ piece) (holding k [] (begin h)) w d.0 start).1
   event h (Ended k) r w d stays s b =
       let end = (ended_both Bounds Freely Anywhere inner outer freely anywhere k (is_open (stage_of k h.connections)) d.0 (begin h) tt (s, b)).1 in
-      let v = ended_open k (is_open (stage_of k h.connections)) d.0 (begin h) in
+      let v = close_if_open k (is_open (stage_of k h.connections)) d.0 (begin h) in
       let kept = kept_line n k stays v.hub.connections in
       subst Bounded (sym d.1) (record {
         known = kept.0 ∙ end.known;
@@ -282,7 +282,7 @@ module _ (n : Conn) (most base : ℕ) (low : most ≤ base) where
         bytes = subst (λ (l : List ℕ). length l ≤ base + other_bytes (on_conn n v.sent)) (sym kept.1) end.bytes;
       })
   event h (Tick now) r w d stays s b =
-      (tick_both Bounds Freely Anywhere inner outer freely anywhere (λ fits w. tt) tt (told now h) w d.0 (s, same (begin h) (begin (told now h)) refl refl refl b)).1
+      (tick_both Bounds Freely Anywhere inner outer freely anywhere (λ fits w. tt) tt (with_clock now h) w d.0 (s, same (begin h) (begin (with_clock now h)) refl refl refl b)).1
   event h (Collect k) r w d stays s b =
       subst Bounded (sym d.0) (record {
         known = knows_map (changed emptied k) (names_changed emptied k (λ x. refl)) n h.connections ∙ b.known;

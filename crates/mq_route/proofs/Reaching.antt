@@ -20,7 +20,7 @@ use Rattle.mq_route.specs.Routed.{same_conn}
 use Rattle.mq_route.specs.Hub.{HubState, HubConnection, new_hub, is_connection, stage_of, waiting_on, changed, with_connection, is_for, is_open, held_on, up_on, end_of, with_end}
 use Rattle.mq_route.specs.Work.{Work, begin, said, with_sessions, staged, shut, put_on, put_where, does, remove, remove_if}
 use Rattle.mq_route.specs.Arrives.{new_session}
-use Rattle.mq_route.specs.Step.{Does, HubStep, ended_open, told, holding}
+use Rattle.mq_route.specs.Step.{Does, HubStep, close_if_open, with_clock, holding}
 use Rattle.mq_route.specs.Runs.{is_on}
 use Rattle.mq_route.specs.Laws.{places_on, OutputLaws}
 use Rattle.mq_route.proofs.Lines.{one_conn, same_conn-itself, up_is, conn_in, upper, Names, Bytes as BytesStay, Ups, grown, names_changed, bytes_changed, ups_changed, up_map, waiting_map, put_there}
@@ -213,13 +213,13 @@ module _ (n : Conn) (h : HubState) where
       let start = holding_both Quiet Freely Anywhere inner outer freely anywhere k [] (begin h) (λ r. holds k [] (begin h) r) (s, starts s) in
       (comes_both Quiet Freely Anywhere inner outer freely anywhere (λ fits w. tt) (tt, tt) h.config.limits k other (holds k) (held_on k h.connections ++ piece) (holding k [] (begin h)) w d.0 start).1.1 none
   event (Ended k) r w d s other none =
-      let v = ended_open k (is_open (stage_of k h.connections)) d.0 (begin h) in
+      let v = close_if_open k (is_open (stage_of k h.connections)) d.0 (begin h) in
       let end = ended_both Quiet Freely Anywhere inner outer freely anywhere k (is_open (stage_of k h.connections)) d.0 (begin h) tt (s, starts s) in
       ap (λ (w : Work). waiting_on n w.hub.connections) d.1
       ∙ (kept_line n k other v.hub.connections).1
       ∙ end.1.1 (sym (ap (λ (w : Work). list_any (places_on n h) w.did) d.1) ∙ none)
   event (Tick now) r w d s other none =
-      (tick_both Quiet Freely Anywhere inner outer freely anywhere (λ fits w. tt) tt (told now h) w d.0 (s, starts s)).1.1 none
+      (tick_both Quiet Freely Anywhere inner outer freely anywhere (λ fits w. tt) tt (with_clock now h) w d.0 (s, starts s)).1.1 none
   event (Collect k) r w d s other none = ap (λ (w : Work). waiting_on n w.hub.connections) d.0 ∙ put_there k n emptied h.connections (λ x. refl) other
 
   pub others : (e : HubEvent) (r : HubReply) (h2 : HubState) → HubStep h e r h2 → Sound h → is_on n e ≡ false → list_any (places_on n h) r.acts ≡ false

@@ -25,8 +25,8 @@ use Rattle.mq_route.specs.declared.connection_state.ConnectionTerms.{ConnectionT
 use Rattle.mq_route.specs.Routed.{same_conn}
 use Rattle.mq_route.specs.Hub.{HubState, HubConnection, new_hub, is_connection, knows, stage_of, held_on, changed, with_connection, without_connection, is_open, up_on, end_on, end_of, with_end}
 use Rattle.mq_route.specs.Work.{Work, begin, said, with_connections, with_sessions, staged, shut, put_on, does, remove, remove_if}
-use Rattle.mq_route.specs.Arrives.{new_session, takes, broken, closes_by, on_malformed}
-use Rattle.mq_route.specs.Step.{holding, Comes, Arrives, Waits, Breaks, Starves, LetsGo, Does, event_refusal, ended_open, told}
+use Rattle.mq_route.specs.Arrives.{new_session, on_packet, broken, closes_by, on_malformed}
+use Rattle.mq_route.specs.Step.{holding, OnBytes, Arrives, Waits, Breaks, Starves, LetsGo, Does, event_refusal, close_if_open, with_clock}
 use Rattle.mq_route.specs.Runs.{Episode, Follows, Stays, ends_it}
 use Rattle.mq_route.specs.Reading.{reads_in, read_by, read_on, bytes_to, arrived, ReadLaws}
 use Rattle.mq_route.proofs.Lines.{one_conn, same_conn-itself, Names, grown, names_changed, stage_here, stage_there, helds_changed, opens_changed, held_map, open_map, held_there, held_here, open_known}
@@ -101,7 +101,7 @@ same_event h (Ended k) r w d s =
     ap (λ (w : Work). w.hub.config) d.1 ∙ (ended_both (Same c) Freely Anywhere (same_inner c) (same_outer c) freely anywhere k (is_open (stage_of k h.connections)) d.0 (begin h) tt (s, refl)).1
 same_event h (Tick now) r w d s =
     let c = h.config in
-    (tick_both (Same c) Freely Anywhere (same_inner c) (same_outer c) freely anywhere (λ fits w. tt) tt (told now h) w d.0 (s, refl)).1
+    (tick_both (Same c) Freely Anywhere (same_inner c) (same_outer c) freely anywhere (λ fits w. tt) tt (with_clock now h) w d.0 (s, refl)).1
 same_event h (Collect k) r w d s = ap (λ (w : Work). w.hub.config) d.0
 
 pub same_run : (es : List Episode) (h h2 : HubState) → Follows h es h2 → Sound h → h2.config ≡ h.config
@@ -218,9 +218,9 @@ malformed_shut k fault fits w =
 not_open : (s : ConnectionState) (A : Type 0) → s ≡ Closed → is_open s ≡ true → A
 not_open s A e up = absurd (true≢false (sym up ∙ ap is_open e))
 
-reads_comes : (limits : Bounds) (k : Conn) (b : List ℕ) (w w2 : Work) (c : Comes limits k b w w2) → ReadsIn k limits (reads_in limits k b w w2 c) b w.hub w2.hub
+reads_comes : (limits : Bounds) (k : Conn) (b : List ℕ) (w w2 : Work) (c : OnBytes limits k b w w2) → ReadsIn k limits (reads_in limits k b w w2 c) b w.hub w2.hub
 reads_comes limits k b w w2 (Arrives p first rest g v v2 on reads more) =
-    let later = reads_comes limits k rest (takes k p g v) v2 more in
+    let later = reads_comes limits k rest (on_packet k p g v) v2 more in
     record {
       front = first ++ later.front;
       rest = later.rest;
@@ -322,14 +322,14 @@ reads_event n h (Ended k) r w right d stays s known =
     let A : Type 0 = is_open (stage_of n h.connections) ≡ true in
     let b = held_on n h.connections in
     let end = ended_both (Still n A b) Freely Anywhere (still_inner n A b) (still_outer n A b) freely anywhere k (is_open (stage_of k h.connections)) d.0 (begin h) tt (s, begins_still n h) in
-    let v = ended_open k (is_open (stage_of k h.connections)) d.0 (begin h) in
+    let v = close_if_open k (is_open (stage_of k h.connections)) d.0 (begin h) in
     let kept = others_after n k stays v.hub.connections in
     quiet n h.config.limits h w (subst (λ (w : Work). Still n A b nothing w) (sym d.1) (λ up. let s = end.1 (ap is_open (sym kept.0) ∙ up) in (s.0, kept.1 ∙ s.1)))
 reads_event n h (Tick now) r w right d stays s known =
     let A : Type 0 = is_open (stage_of n h.connections) ≡ true in
     let b = held_on n h.connections in
     quiet n h.config.limits h w
-    (tick_both (Still n A b) Freely Anywhere (still_inner n A b) (still_outer n A b) freely anywhere (λ fits w. tt) tt (told now h) w d.0 (s, begins_still n h)).1
+    (tick_both (Still n A b) Freely Anywhere (still_inner n A b) (still_outer n A b) freely anywhere (λ fits w. tt) tt (with_clock now h) w d.0 (s, begins_still n h)).1
 reads_event n h (Collect k) r w right d stays s known =
     let f = changed emptied k in
     let names : Names f = names_changed emptied k (λ x. refl) in

@@ -17,8 +17,8 @@ use Rattle.mq_route.specs.declared.event.HubEvent.TheVariants.{Tick}
 use Rattle.mq_route.specs.declared.reply.HubReply.{HubReply}
 use Rattle.mq_route.specs.Copies.{will_message}
 use Rattle.mq_route.specs.Hub.{HubState, HubSession, HubConnection, is_for, key_on, stage_of, up_on, end_of, with_end, with_left, without_session, copies_of}
-use Rattle.mq_route.specs.Work.{Work, begin, said, with_sessions, shut, put_where, does, publishes_next, is_missed, place, place_all, put_on, have_room, deliver, remove, remove_if, last_will, will_after, leaves_behind, shut_down, close}
-use Rattle.mq_route.specs.Step.{Ticks, Done, InTime, Late, Does, has_passed, is_expired, expired_keys, remove_all, expire, told}
+use Rattle.mq_route.specs.Work.{Work, begin, said, with_sessions, shut, put_where, does, publishes_next, is_missed, enqueue, enqueue_all, put_on, have_room, deliver, remove, remove_if, last_will, will_after, leaves_behind, shut_down, close}
+use Rattle.mq_route.specs.Step.{OnTick, Done, InTime, Late, Does, has_passed, is_expired, expired_keys, remove_all, expire, with_clock}
 use Rattle.mq_route.proofs.Lines.{upper, up_none, upper_none}
 use Rattle.mq_route.proofs.Uppers.{IsIdle, unless_other}
 use Rattle.mq_route.proofs.Changes.{Sound, retaining, upper_shut}
@@ -50,17 +50,17 @@ unfolding put_on
 facts_put None ps w = refl
 facts_put (Some k) ps w = refl
 
-facts_place : (key : ℕ) (m : Message) (w : Work) → facts (place key m w) ≡ facts w
-unfolding place does
+facts_place : (key : ℕ) (m : Message) (w : Work) → facts (enqueue key m w) ≡ facts w
+unfolding enqueue does
 facts_place key m w =
     let e = (publishes_next m (end_of key w.hub.sessions)) in
     let v = with_sessions (with_end key e.end) w in
     cond_both (is_missed key m w.hub) (said (acts.Missed key m) w) (said (acts.Placed key m) (does key (publishes_next m) w)) (λ (v : Work). facts v ≡ facts w)
     (λ is. refl) (λ goes. facts_put (up_on key w.hub.connections) e.out v ∙ facts_with key e.end w)
 
-facts_place_all : (xs : List (ℕ × Message)) (w : Work) → facts (place_all xs w) ≡ facts w
+facts_place_all : (xs : List (ℕ × Message)) (w : Work) → facts (enqueue_all xs w) ≡ facts w
 facts_place_all [] w = refl
-facts_place_all (x ∷ xs) w = facts_place_all xs (place x.0 x.1 w) ∙ facts_place x.0 x.1 w
+facts_place_all (x ∷ xs) w = facts_place_all xs (enqueue x.0 x.1 w) ∙ facts_place x.0 x.1 w
 
 facts_will : (key : ℕ) (will : Option Will) (fits : Bool) (w : Work) → facts (last_will key will fits w) ≡ facts w
 unfolding last_will deliver
@@ -277,7 +277,7 @@ config_expire : (h : HubState) → (expire h).hub.config ≡ h.config
 unfolding expire
 config_expire h = ap (λ (f : HubConfig × ℕ × List HubConnection). f.0) (frame_kept (expired_keys h) (begin h))
 
-ticks_timely : (within : Option ℕ) (at : ℕ) (xs : List HubConnection) (w w2 : Work) → Ticks within at xs w w2 → Sound w.hub → AreTimely w → (w2.hub.config ≡ w.hub.config) × AreTimely w2
+ticks_timely : (within : Option ℕ) (at : ℕ) (xs : List HubConnection) (w w2 : Work) → OnTick within at xs w w2 → Sound w.hub → AreTimely w → (w2.hub.config ≡ w.hub.config) × AreTimely w2
 ticks_timely within at xs w w2 (Done v) s all = (refl, all)
 ticks_timely within at xs w w2 (InTime x ys v v2 soon more) s all = ticks_timely within at ys v v2 more s all
 ticks_timely within at xs w w2 (Late x ys why fits v v2 late more) s all =
@@ -299,6 +299,6 @@ remain most o h is (s ∷ ss) all = (
 
 pub remaining_tick : (h : HubState) (now : ℕ) (r : HubReply) (w : Work) → Does h (Tick now) r w → Sound h → (most : ℕ) → h.config.session_expiry ≡ Some most → AllByRecursion (IsRemaining most w.hub) w.hub.sessions
 remaining_tick h now r w d s most is =
-    let g = told now h in
+    let g = with_clock now h in
     let t = ticks_timely h.config.connect_within g.clock h.connections (expire g) w d.0 (sound_expire g s) (expire_timely g) in
     remain most w.hub.config.session_expiry w.hub (ap (λ (c : HubConfig). c.session_expiry) (t.0 ∙ config_expire g) ∙ is) w.hub.sessions t.1

@@ -33,7 +33,7 @@ use Rattle.mq_route.specs.Routed.{Seen, nothing_seen, unless_on, seen_after, cop
 use Rattle.mq_route.specs.Hub.{HubState, HubConnection, new_hub, knows, stage_of, changed, with_connection, without_connection, is_open, held_on, up_on, end_of, with_end, for_key, copies_of}
 use Rattle.mq_route.specs.Work.{Work, begin, said, with_sessions, staged, shut, put_on, put_where, does, drops_copies, remove, remove_if}
 use Rattle.mq_route.specs.Arrives.{new_session}
-use Rattle.mq_route.specs.Step.{Does, event_refusal, opened, ended, ended_open, collected, told, holding}
+use Rattle.mq_route.specs.Step.{Does, event_refusal, on_open, on_end, close_if_open, on_collect, with_clock, holding}
 use Rattle.mq_route.specs.Runs.{Episode, Follows, acts_of}
 use Rattle.mq_route.specs.Begun.{view_of}
 use Rattle.mq_route.specs.Laws.{RoutingLaws, for_client}
@@ -361,28 +361,28 @@ module _ (store : StoreLaws) (first : ℕ → Seen) where
 
   tells_event : (log : List Act) (h : HubState) (e : HubEvent) (r : HubReply) (w : Work) → event_refusal e h ≡ None → Does h e r w → Sound h → Agrees log h [] → Agrees (log ++ r.acts) w.hub []
   tells_event log h (Opened k) r w right d s a =
-      let v = begin (opened k h) in
-      let same : (c : ℕ) → up_on c (opened k h).connections ≡ up_on c h.connections = λ c. up_is c (opened k h).connections ∙ ap conn_in (upper_opened k h.clock c h.connections) ∙ sym (up_is c h.connections) in
+      let v = begin (on_open k h) in
+      let same : (c : ℕ) → up_on c (on_open k h).connections ≡ up_on c h.connections = λ c. up_is c (on_open k h).connections ∙ ap conn_in (upper_opened k h.clock c h.connections) ∙ sym (up_is c h.connections) in
       acted log h r w (acts_in _ _ d.1)
-      (subst (λ (w : Work). Agrees (log ++ w.did) w.hub []) (sym d.0) (looks [] (log ++ []) h (opened k h) [] (lines_as [] h (opened k h).connections same) (starts log h a)))
+      (subst (λ (w : Work). Agrees (log ++ w.did) w.hub []) (sym d.0) (looks [] (log ++ []) h (on_open k h) [] (lines_as [] h (on_open k h).connections same) (starts log h a)))
   tells_event log h (Bytes k piece) r w right d s a =
       let start = holding_both (Tells log) Freely Anywhere (inner log) (outer log) freely anywhere k [] (begin h) (λ t. holds_tells log k [] (begin h) t) (s, starts log h a) in
       let end = comes_both (Tells log) Freely Anywhere (inner log) (outer log) freely anywhere (λ fits w. tt) (tt, tt) h.config.limits k tt (holds_tells log k) (held_on k h.connections ++ piece) (holding k [] (begin h)) w d.0 start in
       acted log h r w (acts_in _ _ d.1) end.1
   tells_event log h (Ended k) r w right d s a =
-      let v = ended_open k (is_open (stage_of k h.connections)) d.0 (begin h) in
+      let v = close_if_open k (is_open (stage_of k h.connections)) d.0 (begin h) in
       let end = ended_both (Tells log) Freely Anywhere (inner log) (outer log) freely anywhere k (is_open (stage_of k h.connections)) d.0 (begin h) tt (s, starts log h a) in
       let same : (c : ℕ) → up_on c (without_connection k v.hub.connections) ≡ up_on c v.hub.connections =
       (λ c. up_is c (without_connection k v.hub.connections) ∙ ap conn_in (upper_without k v.hub.connections end.0.apart (ended_idle k d.0 (begin h)) c) ∙ sym (up_is c v.hub.connections)) in
       acted log h r w (acts_in _ _ d.2)
-      (subst (λ (w : Work). Agrees (log ++ w.did) w.hub []) (sym d.1) (looks [] (log ++ v.did) v.hub (ended k d.0 h).hub [] (lines_as [] v.hub (without_connection k v.hub.connections) same) end.1))
+      (subst (λ (w : Work). Agrees (log ++ w.did) w.hub []) (sym d.1) (looks [] (log ++ v.did) v.hub (on_end k d.0 h).hub [] (lines_as [] v.hub (without_connection k v.hub.connections) same) end.1))
   tells_event log h (Tick now) r w right d s a =
-      let end = tick_both (Tells log) Freely Anywhere (inner log) (outer log) freely anywhere (λ fits w. tt) tt (told now h) w d.0 (s, starts log h a) in
+      let end = tick_both (Tells log) Freely Anywhere (inner log) (outer log) freely anywhere (λ fits w. tt) tt (with_clock now h) w d.0 (s, starts log h a) in
       acted log h r w (acts_in _ _ d.1) end.1
   tells_event log h (Collect k) r w right d s a =
-      let same : (c : ℕ) → up_on c (collected k h).connections ≡ up_on c h.connections = λ c. up_map (changed emptied k) (names_changed emptied k emptied_names) (ups_changed emptied k emptied_ups) c h.connections in
+      let same : (c : ℕ) → up_on c (on_collect k h).connections ≡ up_on c h.connections = λ c. up_map (changed emptied k) (names_changed emptied k emptied_names) (ups_changed emptied k emptied_ups) c h.connections in
       subst (λ (l : List Act). Agrees (log ++ l) w.hub []) (sym (acts_in _ _ d.1))
-      (subst (λ (w : Work). Agrees (log ++ []) w.hub []) (sym d.0) (looks [] (log ++ []) h (collected k h) [] (lines_as [] h (collected k h).connections same) (starts log h a)))
+      (subst (λ (w : Work). Agrees (log ++ []) w.hub []) (sym d.0) (looks [] (log ++ []) h (on_collect k h) [] (lines_as [] h (on_collect k h).connections same) (starts log h a)))
 
   pub tells_run : (es : List Episode) (log : List Act) (h h2 : HubState) → Follows h es h2 → Sound h → Agrees log h [] → Agrees (log ++ acts_of es) h2 []
   tells_run [] log h h2 f s a = subst (λ (h : HubState). Agrees (log ++ []) h []) (sym f) (starts log h a)

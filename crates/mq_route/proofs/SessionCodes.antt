@@ -8,7 +8,7 @@ use Rattle.mq_topic.specs.Qos.{qos_number}
 use Rattle.mq_packet.specs.Identifier.{IsIdentifier}
 use Rattle.mq_packet.specs.Encoding.{bit}
 use Rattle.mq_packet.specs.declared.message.Message.{Message}
-use Rattle.mq_flow.specs.declared.entry.Entry.{Entry}
+use Rattle.mq_flow.specs.declared.entry.SenderEntry.{SenderEntry}
 use Rattle.mq_flow.specs.Receiver.{ReceiverBook}
 use Rattle.mq_flow.specs.Saved.{count, saved_payload, saved_flags, saved_entry, saved_ids, saved_receiver}
 use Rattle.mq_flow.specs.Loading.{receiver_at}
@@ -35,7 +35,7 @@ receiver_code a b r s p q e = pair_parts a b r s (sym (receiver_again a r p) ∙
 
 -- ---- messages that are not acknowledged
 
-pub entry_code : (x y : Entry) (r s : List ℕ) → saved_entry x ++ r ≡ saved_entry y ++ s → (x ≡ y) × (r ≡ s)
+pub entry_code : (x y : SenderEntry) (r s : List ℕ) → saved_entry x ++ r ≡ saved_entry y ++ s → (x ≡ y) × (r ≡ s)
 entry_code x y r s e =
     let body : Message → List ℕ = λ m. counted m.topic ++ saved_payload m.payload in
     let id = number_code x.id y.id ((saved_flags x ++ body x.message) ++ r) ((saved_flags y ++ body y.message) ++ s)
@@ -70,7 +70,7 @@ end_parts x y r s p q e =
     ∙ ap (λ (u : List ℕ). flat_map saved_entry z.book.entries ++ u) (append_assoc (saved_ids z.book.released) (saved_receiver z.received) t)) in
     let last = number_code x.last y.last _ _ (sym (flat x r) ∙ e ∙ flat y s) in
     let size = number_code (length x.book.entries) (length y.book.entries) (flat_map saved_entry x.book.entries ++ behind x r) (flat_map saved_entry y.book.entries ++ behind y s) last.1 in
-    let entries = each_code (λ (n : Entry). Unit {0}) saved_entry (λ m n r s p q e. entry_code m n r s e) x.book.entries y.book.entries (behind x r) (behind y s) (all_any x.book.entries) (all_any y.book.entries) size.0 size.1 in
+    let entries = each_code (λ (n : SenderEntry). Unit {0}) saved_entry (λ m n r s p q e. entry_code m n r s e) x.book.entries y.book.entries (behind x r) (behind y s) (all_any x.book.entries) (all_any y.book.entries) size.0 size.1 in
     let released = ids_code x.book.released y.book.released (saved_receiver x.received ++ r) (saved_receiver y.received ++ s) entries.1 in
     let received = receiver_code x.received y.received r s p q released.1 in
     record { last = last.0; entries = entries.0; released = released.0; received = received.0; rest = received.1 }

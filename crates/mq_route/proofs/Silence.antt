@@ -12,7 +12,7 @@ use Rattle.mq_route.specs.declared.connection_state.ConnectionState.{ConnectionS
 use Rattle.mq_route.specs.declared.connection_state.ConnectionState.TheVariants.{AwaitingConnect, ConnectedAs, Closed}
 use Rattle.mq_route.specs.Hub.{HubState, HubConnection, new_hub, stage_of, is_open, held_on}
 use Rattle.mq_route.specs.Work.{Work, begin, close}
-use Rattle.mq_route.specs.Step.{holding, Ticks, Done, InTime, Late, has_passed, late_reason, Does, expire, told}
+use Rattle.mq_route.specs.Step.{holding, OnTick, Done, InTime, Late, has_passed, late_reason, Does, expire, with_clock}
 use Rattle.mq_route.specs.Silent.{if_silent, silent_closes, awaits_connect, silent, due_closes, SilentLaws}
 use Rattle.mq_route.proofs.Changes.{Anywhere, anywhere, Ways, Sound}
 use Rattle.mq_route.proofs.Closings.{May, Few, inner, outer, only, close_adds}
@@ -53,7 +53,7 @@ one within now x xs o is = go x.stage ∙ ap (λ (o : Option HubClose). named o 
     go (ConnectedAs key terms last_activity) = alive (is_late last_activity terms.keep_alive now)
     go Closed = refl
 
-ticks : (within : Option ℕ) (now : ℕ) (xs : List HubConnection) (w w2 : Work) → Ticks within now xs w w2 → silent_closes w2.did ≡ silent_closes w.did ++ silent within now xs
+ticks : (within : Option ℕ) (now : ℕ) (xs : List HubConnection) (w w2 : Work) → OnTick within now xs w w2 → silent_closes w2.did ≡ silent_closes w.did ++ silent within now xs
 ticks within now xs w w2 (Done v) = sym (append-nil (silent_closes v.did))
 ticks within now xs w w2 (InTime x ys v v2 soon later) =
     ticks within now ys v v2 later ∙ ap (λ (l : List Conn). silent_closes v.did ++ l) (sym (one within now x ys None soon))
@@ -74,9 +74,9 @@ event h (Ended k) r w d s =
     ap (λ (w : Work). silent_closes w.did) d.1
     ∙ only (ended_both (Few if_silent [] ⊥) (May if_silent ⊥) Anywhere (inner if_silent [] ⊥) (outer if_silent [] ⊥) ways anywhere k (is_open (stage_of k h.connections)) d.0 (begin h) tt (s, inl refl)).1
 event h (Tick now) r w d s =
-    ticks h.config.connect_within (max h.clock now) h.connections (expire (told now h)) w d.0
+    ticks h.config.connect_within (max h.clock now) h.connections (expire (with_clock now h)) w d.0
     ∙ ap (λ (l : List Conn). l ++ silent h.config.connect_within (max h.clock now) h.connections)
-    (only (expire_both (Few if_silent [] ⊥) (May if_silent ⊥) Anywhere (inner if_silent [] ⊥) (outer if_silent [] ⊥) ways anywhere (told now h) (s, inl refl)).1)
+    (only (expire_both (Few if_silent [] ⊥) (May if_silent ⊥) Anywhere (inner if_silent [] ⊥) (outer if_silent [] ⊥) ways anywhere (with_clock now h) (s, inl refl)).1)
 event h (Collect k) r w d s = ap (λ (w : Work). silent_closes w.did) d.0
 
 pub laws : SilentLaws

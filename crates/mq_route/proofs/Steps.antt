@@ -28,8 +28,8 @@ use Rattle.mq_route.specs.Routed.{same_conn}
 use Rattle.mq_route.specs.Hub.{HubState, HubSession, HubConnection, new_end, no_end, stage_of, with_connection, is_open, key_on, is_clean, is_for, up_on, end_of, end_on, key_of}
 use Rattle.mq_route.specs.Welcome.{client_of, refusal, refusal_by_tables, is_unavailable, ends_on}
 use Rattle.mq_route.specs.Work.{Work, begin, said, with_connections, staged, shut, put_on, does, have_room, remove, will_after, leaves_behind, shut_down, close}
-use Rattle.mq_route.specs.Arrives.{Growth, due, answers, answers_all, replies, greeting, terms_of, resume_session, new_session, start_session, take_over, goes_on, accept_connect, on_connect, on_first_packet, on_passed_packet, is_too_broad, dispatch_packet, touched, touched_on, arrives, noted, takes, closes_by, broken, on_malformed}
-use Rattle.mq_route.specs.Step.{holding, Comes, Arrives, Waits, Breaks, Starves, LetsGo, Ticks, Done, InTime, Late, has_passed, late_reason, is_expired, expired_keys, remove_all, expire, ended_open}
+use Rattle.mq_route.specs.Arrives.{Growth, due, answers, answers_all, replies, greeting, terms_of, resume_session, new_session, start_session, take_over, goes_on, accept_connect, on_connect, on_first_packet, on_passed_packet, is_too_broad, dispatch_packet, touched, touched_on, arrives, noted, on_packet, closes_by, broken, on_malformed}
+use Rattle.mq_route.specs.Step.{holding, OnBytes, Arrives, Waits, Breaks, Starves, LetsGo, OnTick, Done, InTime, Late, has_passed, late_reason, is_expired, expired_keys, remove_all, expire, close_if_open}
 use Rattle.mq_route.proofs.Lines.{one_conn, upper, up_is, upper_none, conn_in, Mild, stage_here, fresh_known}
 use Rattle.mq_route.proofs.Uppers.{IsIdle, unless, upper_at, upper_stage}
 use Rattle.mq_route.proofs.Sessions.{has, has_new, end_new, key_there}
@@ -275,8 +275,8 @@ module _ {IsOwn : Conn → Type 0} (R : Debt → Work → Type 0) (May : HubClos
       (nearby.touches g.will_fits k w near) full (stage_heard k w) (mild_both (λ x. record x { stage = touched w.hub.clock x.stage }) k nothing w (heard_mild w.hub.clock) h))
       (λ starved. after_closed on k p (Own reasons.Memory) g.will_fits w near (ways.own reasons.Memory) h)
 
-  pub takes_both : (k : Conn) (p : Packet) (g : Growth) (w : Work) → IsOwn k → Near g.will_fits w → Fills May k p (touched_on k w) → Both nothing w → Both nothing (takes k p g w)
-  unfolding takes
+  pub takes_both : (k : Conn) (p : Packet) (g : Growth) (w : Work) → IsOwn k → Near g.will_fits w → Fills May k p (touched_on k w) → Both nothing w → Both nothing (on_packet k p g w)
+  unfolding on_packet
   takes_both k p g w own near full h =
       let a = arrives_both k p g w own near full h in
       let v = arrives k p g w in
@@ -295,8 +295,8 @@ module _ {IsOwn : Conn → Type 0} (R : Debt → Work → Type 0) (May : HubClos
 
   -- ---- bytes, ticks, and the end of a connection
 
-  pub comes_both : ((fits : Bool) (w : Work) → Near fits w) → May TargetFull × May TooManyMatches → (limits : Bounds) (k : Conn) → IsOwn k → ((b : List ℕ) (v : Work) → R nothing v → R nothing (holding k b v)) → (b : List ℕ) (w w2 : Work) → Comes limits k b w w2 → Both nothing w → Both nothing w2
-  comes_both near full limits k own holds b w w2 (Arrives p first rest g v v2 on reads more) h = comes_both near full limits k own holds rest (takes k p g v) v2 more (takes_both k p g v own (near g.will_fits v) ((λ key up state short. full.0), (λ key up broad. full.1)) h)
+  pub comes_both : ((fits : Bool) (w : Work) → Near fits w) → May TargetFull × May TooManyMatches → (limits : Bounds) (k : Conn) → IsOwn k → ((b : List ℕ) (v : Work) → R nothing v → R nothing (holding k b v)) → (b : List ℕ) (w w2 : Work) → OnBytes limits k b w w2 → Both nothing w → Both nothing w2
+  comes_both near full limits k own holds b w w2 (Arrives p first rest g v v2 on reads more) h = comes_both near full limits k own holds rest (on_packet k p g v) v2 more (takes_both k p g v own (near g.will_fits v) ((λ key up state short. full.0), (λ key up broad. full.1)) h)
   comes_both near full limits k own holds b w w2 (Waits c v on pending) h = (sound_holding k c v h.0, holds c v h.1)
   comes_both near full limits k own holds b w w2 (Breaks c fault fits v on faulty) h = breaks_both k fault fits v own (near fits v) h
   comes_both near full limits k own holds b w w2 (Starves c fits v on some) h = close_both k (Own reasons.Memory) fits v (near fits v) (ways.own reasons.Memory) h
@@ -355,7 +355,7 @@ module _ {IsOwn : Conn → Type 0} (R : Debt → Work → Type 0) (May : HubClos
       go false e = absurd cc
   may_late silent within now since Closed why e = absurd cc
 
-  pub ticks_both : ((fits : Bool) (w : Work) → Near fits w) → May NoConnect → (within : Option ℕ) (now : ℕ) (xs : List HubConnection) (w w2 : Work) → Ticks within now xs w w2
+  pub ticks_both : ((fits : Bool) (w : Work) → Near fits w) → May NoConnect → (within : Option ℕ) (now : ℕ) (xs : List HubConnection) (w w2 : Work) → OnTick within now xs w w2
       → Both nothing w → Both nothing w2
   ticks_both near silent within now xs w w2 (Done v) h = h
   ticks_both near silent within now xs w w2 (InTime x ys v v2 soon more) h = ticks_both near silent within now ys v v2 more h
@@ -364,10 +364,10 @@ module _ {IsOwn : Conn → Type 0} (R : Debt → Work → Type 0) (May : HubClos
       (close_both x.conn why fits v (near fits v) (may_late silent within now x.since x.stage why late) h)
 
   -- a tick
-  pub tick_both : ((fits : Bool) (w : Work) → Near fits w) → May NoConnect → (h : HubState) (w : Work) → Ticks h.config.connect_within h.clock h.connections (expire h) w
+  pub tick_both : ((fits : Bool) (w : Work) → Near fits w) → May NoConnect → (h : HubState) (w : Work) → OnTick h.config.connect_within h.clock h.connections (expire h) w
       → Both nothing (begin h) → Both nothing w
   tick_both near silent h w t start = ticks_both near silent h.config.connect_within h.clock h.connections (expire h) w t (expire_both h start)
 
-  pub ended_both : (k : Conn) (alive fits : Bool) (w : Work) → Near fits w → Both nothing w → Both nothing (ended_open k alive fits w)
+  pub ended_both : (k : Conn) (alive fits : Bool) (w : Work) → Near fits w → Both nothing w → Both nothing (close_if_open k alive fits w)
   ended_both k true fits w near h = close_both k PeerEnded fits w near ways.peer h
   ended_both k false fits w near h = h

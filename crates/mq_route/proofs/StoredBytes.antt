@@ -11,7 +11,7 @@ use Rattle.mq_packet.specs.declared.message.Message.{Message}
 use Rattle.mq_packet.specs.declared.packet.Packet.{Packet}
 use Rattle.mq_packet.specs.declared.packet.Packet.TheVariants as packets
 use Rattle.mq_packet.specs.declared.publish.Delivery.{Delivery}
-use Rattle.mq_flow.specs.declared.entry.Entry.{Entry}
+use Rattle.mq_flow.specs.declared.entry.SenderEntry.{SenderEntry}
 use Rattle.mq_flow.specs.Sender.{SenderBook, blank_book, is_awaited, accept, without_entry, all_sent, no_claims}
 use Rattle.mq_flow.specs.Stored.{message_bytes, entry_bytes, stored_bytes}
 use Rattle.mq_flow.specs.Window.{fits_window}
@@ -19,7 +19,7 @@ use Rattle.mq_end.specs.declared.reason.CloseReason.TheVariants as reasons
 use Rattle.mq_end.specs.declared.state.State.{State}
 use Rattle.mq_end.specs.declared.state.State.TheVariants.{Disconnected, Connecting, Connected}
 use Rattle.mq_end.specs.Both.{stores, publish_gets, flow_gets}
-use Rattle.mq_end.specs.End.{End, over, closes, renewed, comes_up}
+use Rattle.mq_end.specs.End.{End, over, closes, renewed, becomes_connected}
 use Rattle.mq_end.specs.Server.{refuses, connect_gets, server_open_gets, server_up_gets, server_gets_in, server_gets}
 use Rattle.mq_route.specs.Work.{leaves}
 
@@ -66,21 +66,21 @@ within_none (Some most) = omega arith
 
 -- ---- stored bytes
 
-bytes_cons : (e : Entry) (es : List Entry) → entry_bytes (e ∷ es) ≡ message_bytes e.message + entry_bytes es
-bytes_cons e es = sum_by-cons (λ (e : Entry). message_bytes e.message) e es
+bytes_cons : (e : SenderEntry) (es : List SenderEntry) → entry_bytes (e ∷ es) ≡ message_bytes e.message + entry_bytes es
+bytes_cons e es = sum_by-cons (λ (e : SenderEntry). message_bytes e.message) e es
 
 pub stored_accept : (i : ℕ) (m : Message) (sent : Bool) (b : SenderBook) → stored_bytes (accept i m sent b) ≡ stored_bytes b + message_bytes m
-stored_accept i m sent b = sum_by_push (λ (e : Entry). message_bytes e.message) b.entries (record { id = i; message = m; sent = sent })
+stored_accept i m sent b = sum_by_push (λ (e : SenderEntry). message_bytes e.message) b.entries (record { id = i; message = m; sent = sent })
 
-fewer_bytes : (p : Entry → Bool) (es : List Entry) → entry_bytes (filter p es) ≤ entry_bytes es
+fewer_bytes : (p : SenderEntry → Bool) (es : List SenderEntry) → entry_bytes (filter p es) ≤ entry_bytes es
 fewer_bytes p [] = le_refl 0
 fewer_bytes p (e ∷ es) =
     let less = fewer_bytes p es in
     let all = bytes_cons e es in
-    cond_both (p e) (e ∷ filter p es) (filter p es) (λ (l : List Entry). entry_bytes l ≤ entry_bytes (e ∷ es))
+    cond_both (p e) (e ∷ filter p es) (filter p es) (λ (l : List SenderEntry). entry_bytes l ≤ entry_bytes (e ∷ es))
     (λ t. let some = bytes_cons e (filter p es) in omega arith) (λ f. omega arith)
 
-sent_bytes : (es : List Entry) → entry_bytes (map (λ e. record { id = e.id; message = e.message; sent = true }) es) ≡ entry_bytes es
+sent_bytes : (es : List SenderEntry) → entry_bytes (map (λ e. record { id = e.id; message = e.message; sent = true }) es) ≡ entry_bytes es
 sent_bytes [] = refl
 sent_bytes (e ∷ es) =
     bytes_cons (record { id = e.id; message = e.message; sent = true }) (map (λ e. record { id = e.id; message = e.message; sent = true }) es)
@@ -99,10 +99,10 @@ module _ (o : Option ℕ) where
   blank_stored = within_none o
 
   -- an acknowledged message is removed
-  without_stored : (awaited : Bool) (i : ℕ) (es : List Entry) (b : SenderBook) → b.entries ≡ es → IsStored b → Within o (entry_bytes (cond awaited (without_entry i es) es))
+  without_stored : (awaited : Bool) (i : ℕ) (es : List SenderEntry) (b : SenderBook) → b.entries ≡ es → IsStored b → Within o (entry_bytes (cond awaited (without_entry i es) es))
   without_stored awaited i es b is s =
-      let all : Within o (entry_bytes es) = subst (λ (l : List Entry). Within o (entry_bytes l)) is s in
-      cond_both awaited (without_entry i es) es (λ (l : List Entry). Within o (entry_bytes l))
+      let all : Within o (entry_bytes es) = subst (λ (l : List SenderEntry). Within o (entry_bytes l)) is s in
+      cond_both awaited (without_entry i es) es (λ (l : List SenderEntry). Within o (entry_bytes l))
       (λ t. within_less o (entry_bytes (without_entry i es)) (entry_bytes es) (fewer_bytes (λ e. not (eqb e.id i)) es) all) (λ f. all)
 
   sent_stored : (b : SenderBook) → IsStored b → IsStored (all_sent b)
@@ -133,7 +133,7 @@ module _ (o : Option ℕ) where
   connect_stored : (c : Connect) (e : End) → IsStored e.book → IsStored (connect_gets c e).end.book
   connect_stored c e s =
       cond_both (not c.clean_session && eqb (length c.client_id) 0) (refuses IdentifierRejected e)
-      (comes_up (packets.ConnAck (connacks.Accepted (not c.clean_session && e.known)) ∷ []) (not c.clean_session && e.known) (record (renewed c.clean_session e) { keep_alive = c.keep_alive }))
+      (becomes_connected (packets.ConnAck (connacks.Accepted (not c.clean_session && e.known)) ∷ []) (not c.clean_session && e.known) (record (renewed c.clean_session e) { keep_alive = c.keep_alive }))
       (λ r. IsStored r.end.book) (λ t. over_stored e s) (λ f. sent_stored (renewed c.clean_session e).book (renewed_stored c.clean_session e s))
 
   open_stored : (p : Packet) (e : End) → IsStored e.book → IsStored (server_open_gets p e).end.book

@@ -20,7 +20,7 @@ use Rattle.mq_route.specs.Routed.{taken_by, taken}
 use Rattle.mq_route.specs.Hub.{HubState, HubSession, new_hub, new_end, no_end, stage_of, without_session, is_open, held_on, up_on, end_of, with_end, with_left}
 use Rattle.mq_route.specs.Work.{Work, begin, said, with_sessions, staged, shut, put_on, put_where, does, remove, remove_if}
 use Rattle.mq_route.specs.Arrives.{new_session}
-use Rattle.mq_route.specs.Step.{Does, event_refusal, opened, ended, collected, told, holding}
+use Rattle.mq_route.specs.Step.{Does, event_refusal, on_open, on_end, on_collect, with_clock, holding}
 use Rattle.mq_route.specs.Runs.{Episode, Follows, acts_of, came_in}
 use Rattle.mq_route.specs.Taken.{handed_by, book_after, handed_from, of_client}
 use Rattle.mq_route.specs.Laws.{TakingLaws, for_client}
@@ -217,10 +217,10 @@ module _ (log : List Act) (before : List (ℕ × Packet)) where
   remove_hands : (key : ℕ) (w : Work) → ((c : ℕ) → eqb key c ≡ false → has c w.hub.sessions ≡ true → (end_of c w.hub.sessions).received ≡ book_from none_received (of_client c ((before ++ w.came) ++ [])))
       → ((c : ℕ) → taken c (log ++ w.did) ++ [] ≡ handed_from none_received (of_client c ((before ++ w.came) ++ []))) → ((c : ℕ) → w.hub.next_key ≤ c → of_client c ((before ++ w.came) ++ []) ≡ []) → Hands nothing (remove key w)
   unfolding remove taken_by
-  remove_hands key w others told fresh =
+  remove_hands key w others with_clock fresh =
       let h2 = record w.hub { sessions = without_session key w.hub.sessions } in
       idle_act (acts.Removed key) ((before ++ w.came) ++ []) [] w.did h2 (λ c. refl)
-      (told, without_sets (λ c. book_from none_received (of_client c ((before ++ w.came) ++ []))) key w.hub.sessions others, fresh)
+      (with_clock, without_sets (λ c. book_from none_received (of_client c ((before ++ w.came) ++ []))) key w.hub.sessions others, fresh)
 
   removes_hands : (key : ℕ) (w : Work) → Hands nothing w → Hands nothing (remove key w)
   removes_hands key w r = remove_hands key w (λ c apart there. r.1 c there) r.0 r.2
@@ -307,7 +307,7 @@ acts_in r s e = ap (λ (r : HubReply). r.acts) e
 
 hands_event : (log : List Act) (before : List (ℕ × Packet)) (h : HubState) (e : HubEvent) (r : HubReply) (w : Work) → event_refusal e h ≡ None → Does h e r w → Sound h → Kept log before h → Kept (log ++ r.acts) (before ++ w.came) w.hub
 hands_event log before h (Opened k) r w right d s a =
-    subst (λ (w : Work). r.acts ≡ w.did → Kept (log ++ r.acts) (before ++ w.came) w.hub) (sym d.0) (λ same. ends log before r (begin (opened k h)) same (starts log before h a)) (acts_in _ _ d.1)
+    subst (λ (w : Work). r.acts ≡ w.did → Kept (log ++ r.acts) (before ++ w.came) w.hub) (sym d.0) (λ same. ends log before r (begin (on_open k h)) same (starts log before h a)) (acts_in _ _ d.1)
 hands_event log before h (Bytes k piece) r w right d s a =
     let R = Hands log before in
     let start = holding_both R Freely Anywhere (inner log before) (outer log before) freely anywhere k [] (begin h) (λ r. r) (s, starts log before h a) in
@@ -315,12 +315,12 @@ hands_event log before h (Bytes k piece) r w right d s a =
     ends log before r w (acts_in _ _ d.1) end.1
 hands_event log before h (Ended k) r w right d s a =
     let end = ended_both (Hands log before) Freely Anywhere (inner log before) (outer log before) freely anywhere k (is_open (stage_of k h.connections)) d.0 (begin h) tt (s, starts log before h a) in
-    subst (λ (w : Work). r.acts ≡ w.did → Kept (log ++ r.acts) (before ++ w.came) w.hub) (sym d.1) (λ same. ends log before r (ended k d.0 h) same end.1) (acts_in _ _ d.2)
+    subst (λ (w : Work). r.acts ≡ w.did → Kept (log ++ r.acts) (before ++ w.came) w.hub) (sym d.1) (λ same. ends log before r (on_end k d.0 h) same end.1) (acts_in _ _ d.2)
 hands_event log before h (Tick now) r w right d s a =
-    let end = tick_both (Hands log before) Freely Anywhere (inner log before) (outer log before) freely anywhere (λ fits w. tt) tt (told now h) w d.0 (s, starts log before h a) in
+    let end = tick_both (Hands log before) Freely Anywhere (inner log before) (outer log before) freely anywhere (λ fits w. tt) tt (with_clock now h) w d.0 (s, starts log before h a) in
     ends log before r w (acts_in _ _ d.1) end.1
 hands_event log before h (Collect k) r w right d s a =
-    subst (λ (w : Work). r.acts ≡ w.did → Kept (log ++ r.acts) (before ++ w.came) w.hub) (sym d.0) (λ same. ends log before r (begin (collected k h)) same (starts log before h a))
+    subst (λ (w : Work). r.acts ≡ w.did → Kept (log ++ r.acts) (before ++ w.came) w.hub) (sym d.0) (λ same. ends log before r (begin (on_collect k h)) same (starts log before h a))
     (acts_in _ _ d.1 ∙ ap (λ (w : Work). w.did) (sym d.0))
 
 hands_run : (es : List Episode) (log : List Act) (before : List (ℕ × Packet)) (h h2 : HubState) → Follows h es h2 → Sound h → Kept log before h → Kept (log ++ acts_of es) (before ++ came_in es) h2

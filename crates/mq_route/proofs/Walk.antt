@@ -14,7 +14,7 @@ use Rattle.mq_route.specs.declared.conn.Conn.{Conn}
 use Rattle.mq_route.specs.declared.act.Act.TheVariants as acts
 use Rattle.mq_route.specs.Copies.{will_message, retained_for}
 use Rattle.mq_route.specs.Hub.{end_of, with_end, up_on, for_key, copies_of}
-use Rattle.mq_route.specs.Work.{Work, said, with_sessions, put_where, does, publishes_next, drops_copies, lacks_room, lacks_output, is_missed, place, place_all, have_room, deliver, last_will, subscribed, unsubscribed, retained_copies}
+use Rattle.mq_route.specs.Work.{Work, said, with_sessions, put_where, does, publishes_next, drops_copies, lacks_room, lacks_output, is_missed, enqueue, enqueue_all, have_room, deliver, last_will, subscribed, unsubscribed, retained_copies}
 use Rattle.mq_route.specs.Arrives.{answers, answers_all, granted}
 use Rattle.mq_route.proofs.Ends.{Alike, AreAnswers, publishes_alike, taking, takings, NoUp, NoUps}
 use Rattle.mq_route.proofs.Changes.{owes, nothing, Debt, Inner, IsShort, up_put, up_put_where, retaining, subscribing, unsubscribing}
@@ -34,8 +34,8 @@ module _ {IsOwn : Conn → Type 0} (R : Debt → Work → Type 0) (inner : Inner
       put_where_keeps (up_on key w.hub.connections) (move (end_of key w.hub.sessions)).out o (with_sessions (with_end key (move (end_of key w.hub.sessions)).end) w) own plain
       (inner.moves key (move (end_of key w.hub.sessions)).end o w alike h)
 
-  place_keeps : (key : ℕ) (m : Message) (c t : List (ℕ × Message)) (n : List (ℕ × Packet)) (w : Work) → R (owes ((key, m) ∷ c) t n) w → R (owes c t n) (place key m w)
-  unfolding place does
+  place_keeps : (key : ℕ) (m : Message) (c t : List (ℕ × Message)) (n : List (ℕ × Packet)) (w : Work) → R (owes ((key, m) ∷ c) t n) w → R (owes c t n) (enqueue key m w)
+  unfolding enqueue does
   place_keeps key m c t n w h =
       let e = end_of key w.hub.sessions in
       cond_both (is_missed key m w.hub) (said (acts.Missed key m) w) (said (acts.Placed key m) (does key (publishes_next m) w)) (R (owes c t n))
@@ -44,9 +44,9 @@ module _ {IsOwn : Conn → Type 0} (R : Debt → Work → Type 0) (inner : Inner
       (record { end = e; is = refl; sent = (or_parts (drops_copies w.hub.config.when_full && lacks_room key m w.hub) (lacks_output key m w.hub) goes).1 })
       (inner.moves key (publishes_next m e).end (owes ((key, m) ∷ c) t n) w (publishes_alike m.qos (next_identifier e.last e.book) m e) h))
 
-  pub place_all_keeps : (c t : List (ℕ × Message)) (n : List (ℕ × Packet)) (w : Work) → R (owes c t n) w → R (owes [] t n) (place_all c w)
+  pub place_all_keeps : (c t : List (ℕ × Message)) (n : List (ℕ × Packet)) (w : Work) → R (owes c t n) w → R (owes [] t n) (enqueue_all c w)
   place_all_keeps [] t n w h = h
-  place_all_keeps (x ∷ c) t n w h = place_all_keeps c t n (place x.0 x.1 w) (place_keeps x.0 x.1 c t n w h)
+  place_all_keeps (x ∷ c) t n w h = place_all_keeps c t n (enqueue x.0 x.1 w) (place_keeps x.0 x.1 c t n w h)
 
   took_keeps : (key : ℕ) (m : Message) (t : List (ℕ × Message)) (n : List (ℕ × Packet)) (w : Work) → R (owes [] ((key, m) ∷ t) n) w → R (owes [] t n) (deliver (acts.Took key m) m w)
   unfolding deliver

@@ -35,9 +35,9 @@ use Rattle.mq_route.specs.Copies.{will_message, kept}
 use Rattle.mq_route.specs.Routed.{marked}
 use Rattle.mq_route.specs.Hub.{HubState, HubConnection, new_hub, stage_of, is_open, held_on, up_on, key_of, end_of, copies_of}
 use Rattle.mq_route.specs.Welcome.{client_of, refusal}
-use Rattle.mq_route.specs.Work.{Work, begin, said, put_on, does, leaves, is_missed, place, have_room, will_after, close, subscribed, retained_copies}
-use Rattle.mq_route.specs.Arrives.{Growth, granted, due, is_too_broad, answers, touched_on, takes, broken}
-use Rattle.mq_route.specs.Step.{holding, Comes, Arrives, Waits, Breaks, Starves, LetsGo, Ticks, Done, InTime, Late, Does, event_refusal, expire, told}
+use Rattle.mq_route.specs.Work.{Work, begin, said, put_on, does, leaves, is_missed, enqueue, have_room, will_after, close, subscribed, retained_copies}
+use Rattle.mq_route.specs.Arrives.{Growth, granted, due, is_too_broad, answers, touched_on, on_packet, broken}
+use Rattle.mq_route.specs.Step.{holding, OnBytes, Arrives, Waits, Breaks, Starves, LetsGo, OnTick, Done, InTime, Late, Does, event_refusal, expire, with_clock}
 use Rattle.mq_route.specs.Runs.{Episode, Follows}
 use Rattle.mq_route.specs.Dropped.{when_over}
 
@@ -59,7 +59,7 @@ pub record IsAccept (placing : Placing) : Type 0 where
   pub first : let end = end_of placing.key placing.at.hub.sessions in IsFirstFree end.last end.book (next_identifier end.last end.book)
   pub accepts : let end = end_of placing.key placing.at.hub.sessions in
       let identifier = next_identifier end.last end.book in
-      end_of placing.key (place placing.key placing.message placing.at).hub.sessions ≡ record end { book = accept identifier placing.message (is_up end.state) end.book; last = identifier }
+      end_of placing.key (enqueue placing.key placing.message placing.at).hub.sessions ≡ record end { book = accept identifier placing.message (is_up end.state) end.book; last = identifier }
 
 -- the client misses the copy
 abbrev pub is_miss : Placing → Bool
@@ -89,7 +89,7 @@ marked_for client (placing ∷ later) =
 -- the copies of a list
 abbrev pub placings : List (ℕ × Message) → Work → List Placing
 placings [] work = []
-placings (first ∷ rest) work = record { key = first.0; message = first.1; at = work } ∷ placings rest (place first.0 first.1 work)
+placings (first ∷ rest) work = record { key = first.0; message = first.1; at = work } ∷ placings rest (enqueue first.0 first.1 work)
 
 -- the copies of a published message, after its act
 abbrev pub in_share : Act → Message → Work → List Placing
@@ -165,8 +165,8 @@ in_packet conn packet fits (ConnectedAs key terms last_activity) work =
 in_packet conn packet fits Closed work = []
 
 -- a packet, with memory for it or without
-abbrev pub in_takes : Conn → Packet → Growth → Work → List Placing
-in_takes conn packet growth work =
+abbrev pub in_on_packet : Conn → Packet → Growth → Work → List Placing
+in_on_packet conn packet growth work =
     if growth.fits then in_packet conn packet growth.will_fits (stage_of conn work.hub.connections) (touched_on conn work)
     else in_close conn (Own reasons.Memory) growth.will_fits work
 
@@ -176,30 +176,30 @@ in_breaks conn None fits work = []
 in_breaks conn (Some reason) fits work = in_close conn (Own reason) fits work
 
 -- the copies that these bytes place
-abbrev pub in_comes : (limits : Bounds) (conn : Conn) (bytes : List ℕ) (start stop : Work) → Comes limits conn bytes start stop → List Placing
-in_comes limits conn bytes start stop (Arrives packet first rest growth work last on reads more) =
-    in_takes conn packet growth work ++ in_comes limits conn rest (takes conn packet growth work) last more
-in_comes limits conn bytes start stop (Waits rest work on pending) = []
-in_comes limits conn bytes start stop (Breaks rest fault fits work on faulty) =
+abbrev pub in_on_bytes : (limits : Bounds) (conn : Conn) (bytes : List ℕ) (start stop : Work) → OnBytes limits conn bytes start stop → List Placing
+in_on_bytes limits conn bytes start stop (Arrives packet first rest growth work last on reads more) =
+    in_on_packet conn packet growth work ++ in_on_bytes limits conn rest (on_packet conn packet growth work) last more
+in_on_bytes limits conn bytes start stop (Waits rest work on pending) = []
+in_on_bytes limits conn bytes start stop (Breaks rest fault fits work on faulty) =
     in_breaks conn (broken conn fault work).close fits (put_on conn (broken conn fault work).out work)
-in_comes limits conn bytes start stop (Starves rest fits work on some) = in_close conn (Own reasons.Memory) fits work
-in_comes limits conn bytes start stop (LetsGo rest work closed) = []
+in_on_bytes limits conn bytes start stop (Starves rest fits work on some) = in_close conn (Own reasons.Memory) fits work
+in_on_bytes limits conn bytes start stop (LetsGo rest work closed) = []
 
 -- the copies that a tick places
-abbrev pub in_ticks : (within : Option ℕ) (now : ℕ) (connections : List HubConnection) (start stop : Work) → Ticks within now connections start stop → List Placing
-in_ticks within now connections start stop (Done work) = []
-in_ticks within now connections start stop (InTime connection rest work last soon more) = in_ticks within now rest work last more
-in_ticks within now connections start stop (Late connection rest why fits work last late more) =
-    in_close connection.conn why fits work ++ in_ticks within now rest (close connection.conn why fits work) last more
+abbrev pub in_on_tick : (within : Option ℕ) (now : ℕ) (connections : List HubConnection) (start stop : Work) → OnTick within now connections start stop → List Placing
+in_on_tick within now connections start stop (Done work) = []
+in_on_tick within now connections start stop (InTime connection rest work last soon more) = in_on_tick within now rest work last more
+in_on_tick within now connections start stop (Late connection rest why fits work last late more) =
+    in_close connection.conn why fits work ++ in_on_tick within now rest (close connection.conn why fits work) last more
 
 -- the copies that a step places
 abbrev pub in_step : (hub : HubState) (event : HubEvent) (reply : HubReply) (work : Work) → Does hub event reply work → List Placing
 in_step hub (Opened conn) reply work does = []
 in_step hub (Bytes conn piece) reply work does =
-    in_comes hub.config.limits conn (held_on conn hub.connections ++ piece) (holding conn [] (begin hub)) work does.0
+    in_on_bytes hub.config.limits conn (held_on conn hub.connections ++ piece) (holding conn [] (begin hub)) work does.0
 in_step hub (Ended conn) reply work does =
     if is_open (stage_of conn hub.connections) then in_close conn PeerEnded does.0 (begin hub) else []
-in_step hub (Tick now) reply work does = in_ticks hub.config.connect_within (max hub.clock now) hub.connections (expire (told now hub)) work does.0
+in_step hub (Tick now) reply work does = in_on_tick hub.config.connect_within (max hub.clock now) hub.connections (expire (with_clock now hub)) work does.0
 in_step hub (Collect conn) reply work does = []
 
 pub record AcceptLaws : Type 0 where

@@ -26,7 +26,7 @@ use Rattle.mq_route.specs.declared.connection_state.ConnectionTerms.{ConnectionT
 use Rattle.mq_route.specs.declared.connection_state.ConnectionState.TheVariants.{AwaitingConnect, ConnectedAs, Closed}
 use Rattle.mq_route.specs.Hub.{HubState, new_end, with_connection, stage_of, up_on, is_open, key_on, key_of, end_of, end_on, copies_of}
 use Rattle.mq_route.specs.Welcome.{client_of, ends_with, refusal}
-use Rattle.mq_route.specs.Work.{Work, said, with_connections, staged, put_on, does, leaves, place_all, have_room, deliver, remove, close, subscribed, unsubscribed, retained_copies}
+use Rattle.mq_route.specs.Work.{Work, said, with_connections, staged, put_on, does, leaves, enqueue_all, have_room, deliver, remove, close, subscribed, unsubscribed, retained_copies}
 
 -- Whether allocations succeed for a packet, and for the will that it publishes. A packet publishes
 -- at most one will: that of its own connection if it closes, or that of the connection that it
@@ -58,7 +58,7 @@ answers conn key (happens.Up present) work = said (acts.Up conn key present) wor
 answers conn key (happens.Handed message) work = deliver (acts.Took key message) message work
 -- SUBSCRIBE: the subscriptions are stored, then SUBACK is sent, then the retained messages (3.8.4)
 answers conn key (happens.Subscribe identifier requests) work =
-    place_all (retained_copies key requests work.hub.retained) (does key (subacks identifier (granted requests)) (subscribed key requests work))
+    enqueue_all (retained_copies key requests work.hub.retained) (does key (subacks identifier (granted requests)) (subscribed key requests work))
 -- UNSUBSCRIBE: the subscriptions are removed, and UNSUBACK is sent even if there were none (3.10.4)
 answers conn key (happens.Unsubscribe identifier filters) work = does key (unsubacks identifier) (unsubscribed key filters work)
 -- a server end reports nothing else
@@ -186,8 +186,8 @@ noted (Some key) false packet = []
 noted None still packet = []
 
 -- a packet is processed and logged
-unfoldable pub takes : Conn → Packet → Growth → Work → Work
-takes conn packet growth work = record (arrives conn packet growth work) {
+unfoldable pub on_packet : Conn → Packet → Growth → Work → Work
+on_packet conn packet growth work = record (arrives conn packet growth work) {
   came = (arrives conn packet growth work).came
       ++ noted (key_on (stage_of conn work.hub.connections)) (is_open (stage_of conn (arrives conn packet growth work).hub.connections)) packet;
 }

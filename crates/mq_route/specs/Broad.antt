@@ -16,8 +16,8 @@ use Rattle.mq_route.specs.declared.reply.HubReply.{HubReply}
 use Rattle.mq_route.specs.Closes.{closes_for}
 use Rattle.mq_route.specs.Hub.{HubState, new_hub, stage_of, held_on, key_on}
 use Rattle.mq_route.specs.Work.{Work, begin, retained_copies}
-use Rattle.mq_route.specs.Arrives.{Growth, is_too_broad, takes}
-use Rattle.mq_route.specs.Step.{holding, Comes, Arrives, Waits, Breaks, Starves, LetsGo, Does, event_refusal}
+use Rattle.mq_route.specs.Arrives.{Growth, is_too_broad, on_packet}
+use Rattle.mq_route.specs.Step.{holding, OnBytes, Arrives, Waits, Breaks, Starves, LetsGo, Does, event_refusal}
 use Rattle.mq_route.specs.Runs.{Episode, Follows}
 
 -- the connection, if this is the reason for its close
@@ -39,12 +39,12 @@ pub record IsTooBroad (conn : Conn) (packet : Packet) (growth : Growth) (work : 
   pub connected : key_on (stage_of conn work.hub.connections) ≡ Some key
   pub broad : is_too_broad packet work.hub ≡ true
   pub none_before : broad_closes work.did ≡ []
-  pub closes : broad_closes (takes conn packet growth work).did ≡ conn ∷ []
+  pub closes : broad_closes (on_packet conn packet growth work).did ≡ conn ∷ []
 
 -- one of the packets in these bytes is too broad
-abbrev pub ComesTooBroad : (limits : Bounds) (conn : Conn) (bytes : List ℕ) (start stop : Work) → Comes limits conn bytes start stop → Type 0
+abbrev pub ComesTooBroad : (limits : Bounds) (conn : Conn) (bytes : List ℕ) (start stop : Work) → OnBytes limits conn bytes start stop → Type 0
 ComesTooBroad limits conn bytes start stop (Arrives packet first rest growth work last on reads more) =
-    IsTooBroad conn packet growth work ⊎ ComesTooBroad limits conn rest (takes conn packet growth work) last more
+    IsTooBroad conn packet growth work ⊎ ComesTooBroad limits conn rest (on_packet conn packet growth work) last more
 ComesTooBroad limits conn bytes start stop (Waits rest work on pending) = ⊥
 ComesTooBroad limits conn bytes start stop (Breaks rest fault fits work on faulty) = ⊥
 ComesTooBroad limits conn bytes start stop (Starves rest fits work on some) = ⊥

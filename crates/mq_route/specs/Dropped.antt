@@ -19,8 +19,8 @@ use Rattle.mq_route.specs.declared.connection_state.ConnectionTerms.{ConnectionT
 use Rattle.mq_route.specs.Copies.{will_message}
 use Rattle.mq_route.specs.Hub.{HubState, HubConnection, new_hub, stage_of, held_on, end_of, with_end, copies_of}
 use Rattle.mq_route.specs.Work.{Work, begin, said, shut, with_sessions, have_room, remove_if, will_after, close}
-use Rattle.mq_route.specs.Arrives.{takes}
-use Rattle.mq_route.specs.Step.{holding, Comes, Arrives, Waits, Breaks, Starves, LetsGo, Ticks, Done, InTime, Late, Does, event_refusal, expire, told}
+use Rattle.mq_route.specs.Arrives.{on_packet}
+use Rattle.mq_route.specs.Step.{holding, OnBytes, Arrives, Waits, Breaks, Starves, LetsGo, OnTick, Done, InTime, Late, Does, event_refusal, expire, with_clock}
 use Rattle.mq_route.specs.Runs.{Episode, Follows}
 
 unfoldable pub dropped_by : Act → List ℕ
@@ -63,29 +63,29 @@ pub record LosesWill (policy : WhenFull) (client : ℕ) (fits : Bool) (work : Wo
       (fits ≡ false) ⊎ ((policy ≡ ClosePublisher) × (have_room (copies_of (will_message will) after.hub) after.hub ≡ false))
 
 -- the client loses its will at one of the packets in these bytes, or at a fault
-abbrev pub ComesLosing : WhenFull → ℕ → (limits : Bounds) (conn : Conn) (bytes : List ℕ) (start stop : Work) → Comes limits conn bytes start stop → Type 0
-ComesLosing policy client limits conn bytes start stop (Arrives packet first rest growth work last on reads more) =
-    LosesWill policy client growth.will_fits work ⊎ ComesLosing policy client limits conn rest (takes conn packet growth work) last more
-ComesLosing policy client limits conn bytes start stop (Waits rest work on pending) = ⊥
-ComesLosing policy client limits conn bytes start stop (Breaks rest fault fits work on faulty) = LosesWill policy client fits work
-ComesLosing policy client limits conn bytes start stop (Starves rest fits work on some) = LosesWill policy client fits work
-ComesLosing policy client limits conn bytes start stop (LetsGo rest work closed) = ⊥
+abbrev pub OnBytesLosing : WhenFull → ℕ → (limits : Bounds) (conn : Conn) (bytes : List ℕ) (start stop : Work) → OnBytes limits conn bytes start stop → Type 0
+OnBytesLosing policy client limits conn bytes start stop (Arrives packet first rest growth work last on reads more) =
+    LosesWill policy client growth.will_fits work ⊎ OnBytesLosing policy client limits conn rest (on_packet conn packet growth work) last more
+OnBytesLosing policy client limits conn bytes start stop (Waits rest work on pending) = ⊥
+OnBytesLosing policy client limits conn bytes start stop (Breaks rest fault fits work on faulty) = LosesWill policy client fits work
+OnBytesLosing policy client limits conn bytes start stop (Starves rest fits work on some) = LosesWill policy client fits work
+OnBytesLosing policy client limits conn bytes start stop (LetsGo rest work closed) = ⊥
 
 -- the client loses its will when one of the late connections closes
-abbrev pub TicksLosing : WhenFull → ℕ → (within : Option ℕ) (now : ℕ) (connections : List HubConnection) (start stop : Work) → Ticks within now connections start stop → Type 0
-TicksLosing policy client within now connections start stop (Done work) = ⊥
-TicksLosing policy client within now connections start stop (InTime connection rest work last soon more) = TicksLosing policy client within now rest work last more
-TicksLosing policy client within now connections start stop (Late connection rest why fits work last late more) =
-    LosesWill policy client fits work ⊎ TicksLosing policy client within now rest (close connection.conn why fits work) last more
+abbrev pub OnTickLosing : WhenFull → ℕ → (within : Option ℕ) (now : ℕ) (connections : List HubConnection) (start stop : Work) → OnTick within now connections start stop → Type 0
+OnTickLosing policy client within now connections start stop (Done work) = ⊥
+OnTickLosing policy client within now connections start stop (InTime connection rest work last soon more) = OnTickLosing policy client within now rest work last more
+OnTickLosing policy client within now connections start stop (Late connection rest why fits work last late more) =
+    LosesWill policy client fits work ⊎ OnTickLosing policy client within now rest (close connection.conn why fits work) last more
 
 -- the client loses its will in the event
 abbrev pub IsLosingEvent : ℕ → (hub : HubState) (event : HubEvent) (reply : HubReply) (work : Work) → Does hub event reply work → Type 0
 IsLosingEvent client hub (Opened conn) reply work does = ⊥
 IsLosingEvent client hub (Bytes conn piece) reply work does =
-    ComesLosing hub.config.when_full client hub.config.limits conn (held_on conn hub.connections ++ piece) (holding conn [] (begin hub)) work does.0
+    OnBytesLosing hub.config.when_full client hub.config.limits conn (held_on conn hub.connections ++ piece) (holding conn [] (begin hub)) work does.0
 IsLosingEvent client hub (Ended conn) reply work does = LosesWill hub.config.when_full client does.0 (begin hub)
 IsLosingEvent client hub (Tick now) reply work does =
-    TicksLosing hub.config.when_full client hub.config.connect_within (max hub.clock now) hub.connections (expire (told now hub)) work does.0
+    OnTickLosing hub.config.when_full client hub.config.connect_within (max hub.clock now) hub.connections (expire (with_clock now hub)) work does.0
 IsLosingEvent client hub (Collect conn) reply work does = ⊥
 
 pub record WillLaws : Type 0 where

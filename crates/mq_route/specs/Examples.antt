@@ -19,8 +19,8 @@ use Rattle.mq_route.specs.declared.config.WhenFull.TheVariants.{ClosePublisher, 
 use Rattle.mq_route.specs.Routed.{routed}
 use Rattle.mq_route.specs.Hub.{new_hub, waiting_on}
 use Rattle.mq_route.specs.Work.{Work, begin}
-use Rattle.mq_route.specs.Arrives.{Growth, takes}
-use Rattle.mq_route.specs.Step.{opened, ended_open}
+use Rattle.mq_route.specs.Arrives.{Growth, on_packet}
+use Rattle.mq_route.specs.Step.{on_open, close_if_open}
 
 -- ---- abbreviations
 
@@ -53,11 +53,11 @@ ask topic_filter qos = record { filter = topic_filter; qos = qos }
 -- packets arrive, each on its connection
 abbrev pub run : List (ℕ × Packet) → Work → Work
 run [] work = work
-run (first ∷ rest) work = run rest (takes (conn first.0) first.1 fine work)
+run (first ∷ rest) work = run rest (on_packet (conn first.0) first.1 fine work)
 
 -- connections 1, 2 and 3 are open
 abbrev pub open_three : HubConfig → Work
-open_three settings = begin (opened (conn 3) (opened (conn 2) (opened (conn 1) (new_hub settings))))
+open_three settings = begin (on_open (conn 3) (on_open (conn 2) (on_open (conn 1) (new_hub settings))))
 
 -- ---- runs
 
@@ -87,7 +87,7 @@ over_taken = run ((1, hello (118 ∷ []) false (Some (record { topic = 119 ∷ [
 -- publishes
 abbrev pub replaced : Work
 replaced = run ((2, hello (99 ∷ []) true None) ∷ (3, hello (112 ∷ []) true None) ∷ (3, publish 7 (msg (97 ∷ []) (120 ∷ []) Q1 false)) ∷ [])
-    (ended_open (conn 1) true true (run ((1, hello (99 ∷ []) false None) ∷ (1, packets.Subscribe 1 (ask (35 ∷ []) Q1 ∷ []))
+    (close_if_open (conn 1) true true (run ((1, hello (99 ∷ []) false None) ∷ (1, packets.Subscribe 1 (ask (35 ∷ []) Q1 ∷ []))
     ∷ []) (open_three config)))
 
 -- one user, and at most one identifier in use

@@ -11,7 +11,7 @@ use Rattle.mq_route.specs.Full.{IsAmong}
 use Rattle.mq_route.specs.Hub.{HubState, HubSession, key_on, new_hub, stage_of, up_on}
 use Rattle.mq_route.specs.Work.{Work, begin, close}
 use Rattle.mq_route.specs.Runs.{Episode, Follows}
-use Rattle.mq_route.specs.Step.{Does, Ticks, expire, expired_keys, told}
+use Rattle.mq_route.specs.Step.{Does, OnTick, expire, expired_keys, with_clock}
 
 -- The client has a session, is not connected, and disconnected longer ago than the limit.
 pub record IsAway (hub : HubState) (client : ℕ) : Type 0 where
@@ -26,7 +26,7 @@ pub record IsAway (hub : HubState) (client : ℕ) : Type 0 where
 pub record ExpiryLaws : Type 0 where
   -- a tick begins with the sessions that expire
   pub first : (hub : HubState) (now : ℕ) (reply : HubReply) (work : Work) → Does hub (Tick now) reply work
-      → Ticks hub.config.connect_within (max hub.clock now) hub.connections (expire (told now hub)) work
+      → OnTick hub.config.connect_within (max hub.clock now) hub.connections (expire (with_clock now hub)) work
   -- these are removed, and no other one
   pub removed : (hub : HubState) → (expire hub).did ≡ map (λ client. acts.Removed client) (expired_keys hub)
   -- their clients are away for longer than the limit

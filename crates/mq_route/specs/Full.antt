@@ -26,8 +26,8 @@ use Rattle.mq_route.specs.Routed.{seen, routed_from}
 use Rattle.mq_route.specs.Closes.{closes_for}
 use Rattle.mq_route.specs.Hub.{HubState, HubSession, new_hub, stage_of, held_on, key_on, end_of}
 use Rattle.mq_route.specs.Work.{Work, begin, leaves}
-use Rattle.mq_route.specs.Arrives.{Growth, takes}
-use Rattle.mq_route.specs.Step.{holding, Comes, Arrives, Waits, Breaks, Starves, LetsGo, Does, event_refusal}
+use Rattle.mq_route.specs.Arrives.{Growth, on_packet}
+use Rattle.mq_route.specs.Step.{holding, OnBytes, Arrives, Waits, Breaks, Starves, LetsGo, Does, event_refusal}
 use Rattle.mq_route.specs.Runs.{Episode, Follows, acts_of}
 
 -- the connection, if this is the reason for its close
@@ -89,13 +89,13 @@ pub record IsTooMuch (log : List Act) (config : HubConfig) (conn : Conn) (packet
       let happenings = (server_gets packet (end_of key work.hub.sessions)).happenings in
       IsShortOf config session (routed_from session.key now (asked key happenings))
   pub none_before : full_closes work.did ≡ []
-  pub closes : full_closes (takes conn packet growth work).did ≡ conn ∷ []
+  pub closes : full_closes (on_packet conn packet growth work).did ≡ conn ∷ []
 
 -- one of the packets in these bytes is too much
 abbrev pub ComesTooMuch : List Act → HubConfig → (limits : Bounds) (conn : Conn) (bytes : List ℕ) (start stop : Work)
-    → Comes limits conn bytes start stop → Type 0
+    → OnBytes limits conn bytes start stop → Type 0
 ComesTooMuch log config limits conn bytes start stop (Arrives packet first rest growth work last on reads more) =
-    IsTooMuch log config conn packet growth work ⊎ ComesTooMuch log config limits conn rest (takes conn packet growth work) last more
+    IsTooMuch log config conn packet growth work ⊎ ComesTooMuch log config limits conn rest (on_packet conn packet growth work) last more
 ComesTooMuch log config limits conn bytes start stop (Waits rest work on pending) = ⊥
 ComesTooMuch log config limits conn bytes start stop (Breaks rest fault fits work on faulty) = ⊥
 ComesTooMuch log config limits conn bytes start stop (Starves rest fits work on some) = ⊥

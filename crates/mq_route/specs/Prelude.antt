@@ -1,4 +1,4 @@
--- What the source files of this crate cite. It declares nothing itself.
+-- The names that the source files of this crate cite. It declares none of its own.
 pub use Rattle.mq_route.specs.Accepted.{AcceptLaws}
 pub use Rattle.mq_route.specs.Begun.{BegunLaws}
 pub use Rattle.mq_route.specs.Bounds.Broker.{BrokerBounds}

@@ -12,14 +12,14 @@ use Rattle.mq_route.specs.declared.reply.HubReply.{HubReply}
 use Rattle.mq_route.specs.Routed.{same_conn}
 use Rattle.mq_route.specs.Hub.{HubState, new_hub, knows, stage_of, is_open, key_on, held_on}
 use Rattle.mq_route.specs.Work.{Work, begin}
-use Rattle.mq_route.specs.Arrives.{noted, takes}
-use Rattle.mq_route.specs.Step.{holding, Comes, Arrives, Waits, Breaks, Starves, LetsGo, Does}
+use Rattle.mq_route.specs.Arrives.{noted, on_packet}
+use Rattle.mq_route.specs.Step.{holding, OnBytes, Arrives, Waits, Breaks, Starves, LetsGo, Does}
 use Rattle.mq_route.specs.Runs.{Episode, Follows, Stays}
 
 -- the packets that are read from these bytes
-abbrev pub reads_in : (limits : Bounds) (conn : Conn) (bytes : List ℕ) (start stop : Work) → Comes limits conn bytes start stop → List Packet
+abbrev pub reads_in : (limits : Bounds) (conn : Conn) (bytes : List ℕ) (start stop : Work) → OnBytes limits conn bytes start stop → List Packet
 reads_in limits conn bytes start stop (Arrives packet first rest growth work last on reads more) =
-    packet ∷ reads_in limits conn rest (takes conn packet growth work) last more
+    packet ∷ reads_in limits conn rest (on_packet conn packet growth work) last more
 reads_in limits conn bytes start stop (Waits rest work on pending) = []
 reads_in limits conn bytes start stop (Breaks rest fault fits work on faulty) = []
 reads_in limits conn bytes start stop (Starves rest fits work on some) = []
@@ -42,9 +42,9 @@ read_on conn hub (episode ∷ episodes) later_hub follows =
 
 -- the packets that are logged from these bytes, each with its client: the client was connected
 -- before the packet, and the connection is open after it
-abbrev pub logged_in : (limits : Bounds) (conn : Conn) (bytes : List ℕ) (start stop : Work) → Comes limits conn bytes start stop → List (ℕ × Packet)
+abbrev pub logged_in : (limits : Bounds) (conn : Conn) (bytes : List ℕ) (start stop : Work) → OnBytes limits conn bytes start stop → List (ℕ × Packet)
 logged_in limits conn bytes start stop (Arrives packet first rest growth work last on reads more) =
-    let now = takes conn packet growth work in
+    let now = on_packet conn packet growth work in
     noted (key_on (stage_of conn work.hub.connections)) (is_open (stage_of conn now.hub.connections)) packet ++ logged_in limits conn rest now last more
 logged_in limits conn bytes start stop (Waits rest work on pending) = []
 logged_in limits conn bytes start stop (Breaks rest fault fits work on faulty) = []

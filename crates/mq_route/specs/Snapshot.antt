@@ -131,7 +131,7 @@ pub record SnapshotLaws : Type 0 where
   -- So brokers that are kept whole, with one configuration, are equal if their snapshots are.
   pub equal : (hub other : HubState) → IsStorable hub → IsStorable other → IsKeptWhole hub → IsKeptWhole other
       → hub.config ≡ other.config → snapshot hub ≡ snapshot other → hub ≡ other
-  -- What it keeps has the same snapshot, and is kept whole.
+  -- A restored broker has the same snapshot, and is kept whole.
   pub again : (config : HubConfig) (hub : HubState) → snapshot (restored config hub) ≡ snapshot hub
   pub rests : (config : HubConfig) (hub : HubState) → IsKeptWhole (restored config hub)
   -- The pending output is not in a snapshot.

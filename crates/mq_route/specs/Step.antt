@@ -18,7 +18,7 @@ use Rattle.mq_route.specs.declared.connection_state.ConnectionState.{ConnectionS
 use Rattle.mq_route.specs.declared.connection_state.ConnectionState.TheVariants.{AwaitingConnect, ConnectedAs, Closed}
 use Rattle.mq_route.specs.Hub.{HubState, HubConnection, HubSession, knows, stage_of, held_on, waiting_on, with_connection, without_connection, up_on, is_open}
 use Rattle.mq_route.specs.Work.{Work, begin, with_connections, remove, close}
-use Rattle.mq_route.specs.Arrives.{Growth, takes, on_malformed}
+use Rattle.mq_route.specs.Arrives.{Growth, on_packet, on_malformed}
 
 -- ---- incoming bytes
 
@@ -31,19 +31,19 @@ holding conn bytes work = with_connections (with_connection (λ x. record x { he
 
 -- Bytes arrive on a connection: its packets are processed one after another, until one closes the
 -- connection, and then the rest.
-pub data Comes (limits : Bounds) (conn : Conn) : List ℕ → Work → Work → Type 0 where
+pub data OnBytes (limits : Bounds) (conn : Conn) : List ℕ → Work → Work → Type 0 where
   -- the bytes begin with a packet, which is processed first
   Arrives : (packet : Packet) (first rest : List ℕ) (growth : Growth) (work last : Work) → is_open_on conn work ≡ true → ReadsWithin limits packet first
-      → Comes limits conn rest (takes conn packet growth work) last → Comes limits conn (first ++ rest) work last
+      → OnBytes limits conn rest (on_packet conn packet growth work) last → OnBytes limits conn (first ++ rest) work last
   -- the bytes are an incomplete packet, and are held
-  Waits : (bytes : List ℕ) (work : Work) → is_open_on conn work ≡ true → Pending limits bytes → Comes limits conn bytes work (holding conn bytes work)
+  Waits : (bytes : List ℕ) (work : Work) → is_open_on conn work ≡ true → Pending limits bytes → OnBytes limits conn bytes work (holding conn bytes work)
   -- the bytes begin with a malformed packet
   Breaks : (bytes : List ℕ) (fault : DecodeFault) (fits : Bool) (work : Work) → is_open_on conn work ≡ true → Faulty limits bytes fault.kind fault.place
-      → Comes limits conn bytes work (on_malformed conn fault fits work)
+      → OnBytes limits conn bytes work (on_malformed conn fault fits work)
   -- there are bytes, and an allocation for them fails
-  Starves : (bytes : List ℕ) (fits : Bool) (work : Work) → is_open_on conn work ≡ true → 0 < length bytes → Comes limits conn bytes work (close conn (Own reasons.Memory) fits work)
+  Starves : (bytes : List ℕ) (fits : Bool) (work : Work) → is_open_on conn work ≡ true → 0 < length bytes → OnBytes limits conn bytes work (close conn (Own reasons.Memory) fits work)
   -- the connection is closed, and ignores the bytes
-  LetsGo : (bytes : List ℕ) (work : Work) → is_open_on conn work ≡ false → Comes limits conn bytes work work
+  LetsGo : (bytes : List ℕ) (work : Work) → is_open_on conn work ≡ false → OnBytes limits conn bytes work work
 
 -- ---- time
 
@@ -62,12 +62,12 @@ late_reason within now since Closed = None
 
 -- The late ones among these connections are closed one after another, in the order in which they
 -- were opened.
-pub data Ticks (within : Option ℕ) (now : ℕ) : List HubConnection → Work → Work → Type 0 where
-  Done : (work : Work) → Ticks within now [] work work
+pub data OnTick (within : Option ℕ) (now : ℕ) : List HubConnection → Work → Work → Type 0 where
+  Done : (work : Work) → OnTick within now [] work work
   InTime : (connection : HubConnection) (connections : List HubConnection) (work last : Work) → late_reason within now connection.since connection.stage ≡ None
-      → Ticks within now connections work last → Ticks within now (connection ∷ connections) work last
+      → OnTick within now connections work last → OnTick within now (connection ∷ connections) work last
   Late : (connection : HubConnection) (connections : List HubConnection) (why : HubClose) (fits : Bool) (work last : Work) → late_reason within now connection.since connection.stage ≡ Some why
-      → Ticks within now connections (close connection.conn why fits work) last → Ticks within now (connection ∷ connections) work last
+      → OnTick within now connections (close connection.conn why fits work) last → OnTick within now (connection ∷ connections) work last
 
 -- the session's client is not connected, and disconnected longer ago than the limit
 abbrev pub is_expired : HubState → HubSession → Bool
@@ -102,34 +102,34 @@ abbrev pub done : Bool → Work → HubReply
 done alive work = record { acts = work.did; output = []; alive = alive }
 
 -- a new connection goes last
-abbrev pub opened : Conn → HubState → HubState
-opened conn hub = record hub { connections = hub.connections ++ record { conn = conn; stage = AwaitingConnect; held = []; waiting = []; since = hub.clock } ∷ [] }
+abbrev pub on_open : Conn → HubState → HubState
+on_open conn hub = record hub { connections = hub.connections ++ record { conn = conn; stage = AwaitingConnect; held = []; waiting = []; since = hub.clock } ∷ [] }
 
-abbrev pub ended_open : Conn → Bool → Bool → Work → Work
-ended_open conn true fits work = close conn PeerEnded fits work
-ended_open conn false fits work = work
+abbrev pub close_if_open : Conn → Bool → Bool → Work → Work
+close_if_open conn true fits work = close conn PeerEnded fits work
+close_if_open conn false fits work = work
 
 -- a connection that ends is closed if it is open, and then forgotten
-abbrev pub ended : Conn → Bool → HubState → Work
-ended conn fits hub = with_connections (without_connection conn) (ended_open conn (is_open (stage_of conn hub.connections)) fits (begin hub))
+abbrev pub on_end : Conn → Bool → HubState → Work
+on_end conn fits hub = with_connections (without_connection conn) (close_if_open conn (is_open (stage_of conn hub.connections)) fits (begin hub))
 
 -- the pending output is taken
-abbrev pub collected : Conn → HubState → HubState
-collected conn hub = record hub { connections = with_connection (λ x. record x { waiting = [] }) conn hub.connections }
+abbrev pub on_collect : Conn → HubState → HubState
+on_collect conn hub = record hub { connections = with_connection (λ x. record x { waiting = [] }) conn hub.connections }
 
 -- the clock is the latest time so far
-abbrev pub told : ℕ → HubState → HubState
-told now hub = record hub { clock = max hub.clock now }
+abbrev pub with_clock : ℕ → HubState → HubState
+with_clock now hub = record hub { clock = max hub.clock now }
 
 -- The result of an event, by its kind.
 abbrev pub Does : HubState → HubEvent → HubReply → Work → Type 0
-Does hub (Opened conn) reply work = (work ≡ begin (opened conn hub)) × (reply ≡ done true work)
+Does hub (Opened conn) reply work = (work ≡ begin (on_open conn hub)) × (reply ≡ done true work)
 Does hub (Bytes conn piece) reply work =
-    Comes hub.config.limits conn (held_on conn hub.connections ++ piece) (holding conn [] (begin hub)) work × (reply ≡ done (is_open_on conn work) work)
-Does hub (Ended conn) reply work = (fits : Bool) × (work ≡ ended conn fits hub) × (reply ≡ done false work)
-Does hub (Tick now) reply work = Ticks hub.config.connect_within (max hub.clock now) hub.connections (expire (told now hub)) work × (reply ≡ done true work)
+    OnBytes hub.config.limits conn (held_on conn hub.connections ++ piece) (holding conn [] (begin hub)) work × (reply ≡ done (is_open_on conn work) work)
+Does hub (Ended conn) reply work = (fits : Bool) × (work ≡ on_end conn fits hub) × (reply ≡ done false work)
+Does hub (Tick now) reply work = OnTick hub.config.connect_within (max hub.clock now) hub.connections (expire (with_clock now hub)) work × (reply ≡ done true work)
 Does hub (Collect conn) reply work =
-    (work ≡ begin (collected conn hub)) × (reply ≡ record { acts = []; output = waiting_on conn hub.connections; alive = is_open (stage_of conn hub.connections) })
+    (work ≡ begin (on_collect conn hub)) × (reply ≡ record { acts = []; output = waiting_on conn hub.connections; alive = is_open (stage_of conn hub.connections) })
 
 -- HubStep: an event results in this reply and this broker.
 pub record HubStep (hub : HubState) (event : HubEvent) (reply : HubReply) (later_hub : HubState) : Type 0 where

@@ -6,14 +6,14 @@ use Rattle.mq_route.specs.declared.event.HubEvent.TheVariants.{Bytes}
 use Rattle.mq_route.specs.declared.reply.HubReply.{HubReply}
 use Rattle.mq_route.specs.Hub.{HubState, held_on}
 use Rattle.mq_route.specs.Work.{Work, begin}
-use Rattle.mq_route.specs.Arrives.{takes}
-use Rattle.mq_route.specs.Step.{holding, Comes, Arrives, Waits, Breaks, Starves, LetsGo, HubStep}
+use Rattle.mq_route.specs.Arrives.{on_packet}
+use Rattle.mq_route.specs.Step.{holding, OnBytes, Arrives, Waits, Breaks, Starves, LetsGo, HubStep}
 
 -- a packet with bytes after it leaves the number of acts below the limit
-abbrev pub IsSparing : ℕ → (limits : Bounds) (conn : Conn) (bytes : List ℕ) (start stop : Work) → Comes limits conn bytes start stop → Type 0
+abbrev pub IsSparing : ℕ → (limits : Bounds) (conn : Conn) (bytes : List ℕ) (start stop : Work) → OnBytes limits conn bytes start stop → Type 0
 IsSparing most limits conn bytes start stop (Arrives packet first rest growth work last on reads more) =
-    ((rest ≡ []) ⊎ (length (takes conn packet growth work).did < most))
-    × IsSparing most limits conn rest (takes conn packet growth work) last more
+    ((rest ≡ []) ⊎ (length (on_packet conn packet growth work).did < most))
+    × IsSparing most limits conn rest (on_packet conn packet growth work) last more
 IsSparing most limits conn bytes start stop (Waits rest work on pending) = Unit {0}
 IsSparing most limits conn bytes start stop (Breaks rest fault fits work on faulty) = Unit {0}
 IsSparing most limits conn bytes start stop (Starves rest fits work on some) = Unit {0}

@@ -124,15 +124,15 @@ is_missed key message hub = (drops_copies hub.config.when_full && lacks_room key
 
 -- a copy that is due is placed for a client (3.3.5), or the client misses it and nothing else
 -- changes
-unfoldable pub place : ℕ → Message → Work → Work
-place key message work =
+unfoldable pub enqueue : ℕ → Message → Work → Work
+enqueue key message work =
     if is_missed key message work.hub then said (acts.Missed key message) work
     else said (acts.Placed key message) (does key (publishes_next message) work)
 
 -- copies are placed or missed one after another
-abbrev pub place_all : List (ℕ × Message) → Work → Work
-place_all [] work = work
-place_all (first ∷ rest) work = place_all rest (place first.0 first.1 work)
+abbrev pub enqueue_all : List (ℕ × Message) → Work → Work
+enqueue_all [] work = work
+enqueue_all (first ∷ rest) work = enqueue_all rest (enqueue first.0 first.1 work)
 
 -- the number of identifiers that a client's copies need (2.3.1)
 abbrev pub needs : ℕ → List (ℕ × Message) → ℕ
@@ -159,7 +159,7 @@ have_room copies hub = drops_copies hub.config.when_full || all_fit copies hub
 -- after this act, a message is retained (3.3.1.3), and its copies are placed or missed (3.3.5)
 unfoldable pub deliver : Act → Message → Work → Work
 deliver act message work =
-    place_all (copies_of message work.hub) (said act (record work { hub = record work.hub { retained = kept message work.hub.retained } }))
+    enqueue_all (copies_of message work.hub) (said act (record work { hub = record work.hub { retained = kept message work.hub.retained } }))
 
 -- ---- the end of sessions, and wills
 

@@ -25,7 +25,7 @@ pub(crate) fn row_of(line: &str) -> Row<'_> {
 /// The act: its words, its time and repetitions, and the number of output bytes to write, if not
 /// all.
 #[derive(Clone, Copy)]
-pub(crate) struct Act<'a> {
+pub(crate) struct RowAct<'a> {
     pub(crate) words: Words<'a>,
     pub(crate) moment: u64,
     pub(crate) times: u64,
@@ -33,12 +33,12 @@ pub(crate) struct Act<'a> {
 }
 
 /// The act of a row.
-pub(crate) fn act_of(text: &str) -> Result<Act<'_>, Wrong> {
+pub(crate) fn act_of(text: &str) -> Result<RowAct<'_>, Wrong> {
     let mut words = Words::new(text);
     let moment = words.after("at")?.unwrap_or(0);
     let times = words.after("times")?.unwrap_or(1);
     let written = words.after("writing")?.map(|bytes| bytes as usize);
-    Ok(Act {
+    Ok(RowAct {
         words,
         moment,
         times,

@@ -82,7 +82,7 @@ fn hand(
     };
     let delivery = publish.delivery();
     let message = publish.into_message();
-    let handing = server.take_publish(moment, &message, delivery)?;
+    let handing = server.receive_publish(moment, &message, delivery)?;
     Ok(write!(told, "{handing:?}")?)
 }
 

@@ -2,7 +2,7 @@
 
 use crate::decoders::Decoders;
 use crate::fields::bytes_of;
-use crate::row::Act;
+use crate::row::RowAct;
 use crate::sessions::{self, Books};
 use crate::stores::Stores;
 use crate::words::Words;
@@ -152,7 +152,7 @@ impl Subject {
     pub(crate) fn tell(
         &mut self,
         alloc: Global,
-        act: Act<'_>,
+        act: RowAct<'_>,
         told: &mut String,
     ) -> Result<(), Wrong> {
         let mut words = act.words;

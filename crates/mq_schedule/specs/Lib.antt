@@ -3,3 +3,4 @@ pub mod Parts
 pub mod Prelude
 pub mod Schedule
 pub mod Writing
+pub mod Inside

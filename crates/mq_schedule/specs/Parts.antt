@@ -19,11 +19,6 @@ abbrev pub parts_left : ℕ → Option (Bor (List ℕ)) → List (List ℕ)
 parts_left by None = []
 parts_left by (Some text) = parts by text.now
 
--- the last word, if there is one
-abbrev pub last_word : Option (Bor (List ℕ)) → List (List ℕ)
-last_word None = []
-last_word (Some word) = word.now ∷ []
-
 -- A value with this property, or none if no value has it.
 abbrev pub Finds : {A : Type 0} → (A → Type 0) → Option A → Type 0
 Finds {A} P None = (value : A) → ¬ P value
@@ -43,12 +38,6 @@ pub record IsLimit (value : ℕ) (word : List ℕ) : Type 0 where
   pub number : IsNumber value word
   pub least : 64 ≤ value
   pub most : value ≤ 268435455
-
--- how many packet identifiers may be in use (2.3.1)
-pub record IsCapacity (value : ℕ) (word : List ℕ) : Type 0 where
-  pub number : IsNumber value word
-  pub least : 1 ≤ value
-  pub most : value ≤ 65535
 
 -- The bounds of the parts of a step (2.2.3, 4.7).
 abbrev pub KeepsBounds : Step → Type 0

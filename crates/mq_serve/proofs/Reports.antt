@@ -10,7 +10,8 @@ use Rattle.mq_book.specs.declared.work_end.WorkEnd.{WorkEnd}
 use Rattle.mq_packet.specs.Lines.{Prints}
 use Rattle.mq_serve.specs.declared.serve_end.ServeEnd.{ServeEnd}
 use Rattle.mq_serve.specs.declared.serve_end.ServeEnd.TheVariants.{Listen}
-use Rattle.mq_serve.specs.Ends.{IsReported, end_of_work, end_status, stop_of}
+use Rattle.mq_serve.specs.Ends.{IsReported, end_of_work, end_status}
+use Rattle.mq_serve.specs.Inside.Ends.{stop_of}
 use Rattle.mq_serve.specs.Printed.{AreSessions, IsEarly, IsServeRun, ServeEnds, end_line, end_lines, listening_line}
 
 pub early : (status : ℕ) (old : Option ServeEnd) (why : ServeEnd) → status ≡ end_status why → IsReported status old (Some why)

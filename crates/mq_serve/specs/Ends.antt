@@ -1,6 +1,5 @@
 -- The end of a broker over sockets.
-use Rattle.std.specs.Prelude.{◌≡◌, ◌⊎◌, ℕ, zero, suc, List, [], ◌∷◌, Option, Some, None, Result, Ok, Err}
-use Rattle.std.specs.declared.io.ErrorKind.{ErrorKind}
+use Rattle.std.specs.Prelude.{◌≡◌, ◌⊎◌, ℕ, List, [], ◌∷◌, Option, Some, None, Result, Ok, Err}
 use Rattle.mq_book.specs.declared.work_end.WorkEnd.{WorkEnd}
 use Rattle.mq_book.specs.declared.work_end.WorkEnd.TheVariants as works
 use Rattle.mq_serve.specs.declared.serve_end.ServeEnd.{ServeEnd}
@@ -32,12 +31,6 @@ abbrev pub first_stop : List (Result ℕ WorkEnd) → Option WorkEnd
 first_stop [] = None
 first_stop (Ok count ∷ ends) = first_stop ends
 first_stop (Err why ∷ ends) = Some why
-
--- why a server is not finished: a worker stopped early, or connections were not accepted
-abbrev pub stop_of : Option WorkEnd → ℕ → ErrorKind → Option ServeEnd
-stop_of (Some why) left failure = Some (end_of_work why)
-stop_of None zero failure = None
-stop_of None (suc left) failure = Some (Net failure)
 
 -- The exit status of a program is 0, and it reports no end; or it is that of the end which it
 -- reports.

@@ -1,10 +1,6 @@
 -- Output that a connection did not take yet.
-use Rattle.std.specs.Prelude.{◌≡◌, ◌⊎◌, ℕ, Bool, true, false, List, [], ◌++◌, length, take, drop, Option, None, Some}
+use Rattle.std.specs.Prelude.{◌≡◌, ◌⊎◌, ℕ, Bool, true, List, [], ◌++◌, length, take, drop, Option}
 use Rattle.std.specs.Io.KnownBytes.{Appends}
-use Rattle.std.specs.declared.io.ErrorKind.{ErrorKind}
-use Rattle.std.specs.declared.io.ErrorKind.TheVariants.{Interrupted, WouldBlock}
-use Rattle.mq_serve.specs.declared.output.WriteNext.{WriteNext}
-use Rattle.mq_serve.specs.declared.output.WriteNext.TheVariants.{Retry, Fail}
 
 -- The bytes that are written next, and those behind them.
 pub record Pending : Type 0 where
@@ -36,10 +32,3 @@ IsWhole count bytes heard = (count ≡ length bytes) ⊎ (heard ≡ true)
 -- If nothing was pending before, nothing is, or bytes of the peer are there.
 abbrev pub IsSent : List ℕ → List ℕ → Bool → Type 0
 IsSent pending rest heard = pending ≡ [] → (rest ≡ []) ⊎ (heard ≡ true)
-
--- The next action after a failed write, with whether the connection took no bytes for too long. The
--- writer waits for room if there is none; any other error ends the connection.
-abbrev pub after_failed_write : ErrorKind → Bool → Option WriteNext
-after_failed_write Interrupted false = Some Retry
-after_failed_write WouldBlock false = None
-after_failed_write kind late = Some Fail

@@ -1,4 +1,4 @@
--- What the source files of this crate cite. It declares nothing itself.
+-- The names that the source files of this crate cite. It declares none of its own.
 pub use Rattle.std.specs.Io.KnownBytes.{Appends, Keeps}
 pub use Rattle.std.specs.IoError.{os_error_kind}
 pub use Rattle.std.specs.List.{flat_map, list_all, sum_by, AllZip}
@@ -13,8 +13,10 @@ pub use Rattle.mq_route.specs.declared.config.WhenFull.TheVariants.{ClosePublish
 pub use Rattle.mq_stream.specs.Stream.{Arrives, IsUnread, outcome_of}
 pub use Rattle.mq_serve.specs.Accepting.{IsTaken, after_failure, is_dead}
 pub use Rattle.mq_serve.specs.Calls.{numbers_from}
-pub use Rattle.mq_serve.specs.Ends.{end_status, IsReported, end_of_work, first_stop, retention_limit, stop_of}
-pub use Rattle.mq_serve.specs.Pending.{IsWhole, after_failed_write, IsSent, Sends, WritesFront, bytes_of}
+pub use Rattle.mq_serve.specs.Ends.{end_status, IsReported, end_of_work, first_stop, retention_limit}
+pub use Rattle.mq_serve.specs.Inside.Ends.{stop_of}
+pub use Rattle.mq_serve.specs.Pending.{IsWhole, IsSent, Sends, WritesFront, bytes_of}
+pub use Rattle.mq_serve.specs.Inside.Pending.{after_failed_write}
 pub use Rattle.mq_serve.specs.Polled.{written_of}
 pub use Rattle.mq_serve.specs.Printed.{end_line, end_lines, session_line, AreSessions, IsEarly, IsServeRun, ServeEnds}
 pub use Rattle.mq_serve.specs.ReadOrder.{after_empty_read, idle, is_later, is_read, reads_beside, seat_of, serving, waits, with_seat, with_waiting}

@@ -15,12 +15,12 @@ use std::sync::{Mutex, Wait};
 
 // A worker: the client that it serves, and whether it must be woken.
 #[derive(Clone, Copy, Debug)]
-struct Seat {
+struct WorkerSeat {
     client: Option<ClientKey>,
     is_called: bool,
 }
 
-const VACANT: Seat = Seat {
+const VACANT: WorkerSeat = WorkerSeat {
     client: None,
     is_called: false,
 };
@@ -28,7 +28,7 @@ const VACANT: Seat = Seat {
 /// The wakers of all workers, and the clients that these serve.
 #[derive(Drop)]
 pub struct Wakers {
-    seats: Mutex<Vec<Seat>>,
+    seats: Mutex<Vec<WorkerSeat>>,
     order: Mutex<ReadOrder>,
     wakers: Vec<Waker>,
 }
@@ -136,7 +136,7 @@ impl StepObserver for WakeOthers<'_> {
 }
 
 // Notes the acts of a step, and calls the other workers that must be woken.
-fn call_others<C: Caller>(seats: &mut [Seat], acts: &[Act], stepped: u16, caller: &mut C)
+fn call_others<C: Caller>(seats: &mut [WorkerSeat], acts: &[Act], stepped: u16, caller: &mut C)
     ensures noted { (number : ℕ) → number < length seats.old → slice_index_or seats.new number vacant
         ≡ after_acts number acts.now (uncalled (slice_index_or seats.old number vacant)) }
     ensures called { Appends (C.called caller.old) (C.called caller.new)
@@ -147,7 +147,7 @@ fn call_others<C: Caller>(seats: &mut [Seat], acts: &[Act], stepped: u16, caller
 }
 
 // Each worker serves the client, and is called, as these acts say.
-fn note_acts(seats: &mut [Seat], acts: &[Act])
+fn note_acts(seats: &mut [WorkerSeat], acts: &[Act])
     ensures { (number : ℕ) → number < length seats.old → slice_index_or seats.new number vacant
         ≡ after_acts number acts.now (uncalled (slice_index_or seats.old number vacant)) }
 {
@@ -158,17 +158,17 @@ fn note_acts(seats: &mut [Seat], acts: &[Act])
 }
 
 // The worker is not called.
-fn uncalled(seat: &Seat) -> Seat
+fn uncalled(seat: &WorkerSeat) -> WorkerSeat
     ensures { result ≡ uncalled seat.now }
 {
-    Seat {
+    WorkerSeat {
         client: seat.client,
         is_called: false,
     }
 }
 
 // Calls the workers that must be woken, except the one that made the step.
-fn call_noted<C: Caller>(seats: &[Seat], stepped: u16, caller: &mut C)
+fn call_noted<C: Caller>(seats: &[WorkerSeat], stepped: u16, caller: &mut C)
     ensures { Appends (C.called caller.old) (C.called caller.new)
         (numbers_from (must_wake stepped) 0 seats.now) }
 {
@@ -180,14 +180,14 @@ fn call_noted<C: Caller>(seats: &[Seat], stepped: u16, caller: &mut C)
 }
 
 // Whether the worker with this number must be woken after a step of another one.
-fn must_wake(stepped: u16, number: usize, seat: &Seat) -> bool
+fn must_wake(stepped: u16, number: usize, seat: &WorkerSeat) -> bool
     ensures { result ≡ must_wake stepped number seat.now }
 {
     seat.is_called && number != usize::from(stepped)
 }
 
 // The worker with this number after these acts.
-fn after_acts(seat: Seat, number: usize, acts: &[Act]) -> Seat
+fn after_acts(seat: WorkerSeat, number: usize, acts: &[Act]) -> WorkerSeat
     ensures { result ≡ after_acts number acts.now seat }
 {
     let mut seat = seat;
@@ -199,11 +199,11 @@ fn after_acts(seat: Seat, number: usize, acts: &[Act]) -> Seat
     seat
 }
 
-fn after_act(seat: Seat, number: usize, act: &Act) -> Seat
+fn after_act(seat: WorkerSeat, number: usize, act: &Act) -> WorkerSeat
     ensures { result ≡ after_act number act.now seat }
 {
     match act {
-        Act::Up(conn, client, _) if usize::from(conn.worker) == number => Seat {
+        Act::Up(conn, client, _) if usize::from(conn.worker) == number => WorkerSeat {
             client: Some(*client),
             is_called: seat.is_called,
         },
@@ -216,14 +216,14 @@ fn after_act(seat: Seat, number: usize, act: &Act) -> Seat
     }
 }
 
-fn call_if(mut seat: Seat, must_wake: bool) -> Seat
+fn call_if(mut seat: WorkerSeat, must_wake: bool) -> WorkerSeat
     ensures { result ≡ call_if must_wake seat }
 {
     seat.is_called = seat.is_called || must_wake;
     seat
 }
 
-fn serves(seat: &Seat, client: ClientKey) -> bool
+fn serves(seat: &WorkerSeat, client: ClientKey) -> bool
     ensures { result ≡ serves client seat.now }
 {
     match &seat.client {

@@ -1,4 +1,4 @@
--- What the source files of this crate cite. It declares nothing itself.
+-- The names that the source files of this crate cite. It declares none of its own.
 pub use Rattle.mq_end.specs.End.{resumed}
 pub use Rattle.mq_flow.specs.Saved.{count, saved_payload}
 pub use Rattle.mq_packet.specs.Encoding.{bit}

@@ -10,8 +10,9 @@ use Rattle.mq_packet.specs.declared.connect.Login.{Login}
 use Rattle.mq_route.specs.declared.config.HashedUser.{HashedUser}
 use Rattle.mq_route.specs.declared.config.User.{User}
 use Rattle.mq_route.specs.Welcome.{has_digest, has_password, is_hashed_one, is_one_of, refusal_by_tables}
-use Rattle.mq_status.specs.Passwords.{AreTablesOf, ReadsTables, accepts, accepts_login, file_gives, hashed_users, hashed_with, is_accepted, plain_users, plain_with, refusal_by_entries}
-use Rattle.mq_status.specs.declared.passwords.Entry.{Entry}
+use Rattle.mq_status.specs.Passwords.{ReadsTables, accepts, accepts_login, file_gives, hashed_users, hashed_with, is_accepted, plain_users, plain_with, refusal_by_entries}
+use Rattle.mq_status.specs.Inside.Passwords.{AreTablesOf}
+use Rattle.mq_status.specs.declared.passwords.PasswordEntry.{PasswordEntry}
 use Rattle.mq_status.specs.declared.passwords.Stored.{Stored}
 use Rattle.mq_status.specs.declared.passwords.Stored.TheVariants.{Plain, Sha256}
 
@@ -33,7 +34,7 @@ step owner name password (Plain kept) plain hashed more h =
 step owner name password (Sha256 salt digest) plain hashed more h =
     in_first _ (list_any (has_digest name password) hashed) (list_any (has_password name password) plain) more h
 
-any_accepts : (name password : List ℕ) (entries : List Entry)
+any_accepts : (name password : List ℕ) (entries : List PasswordEntry)
     → (list_any (has_digest name password) (hashed_users entries) || list_any (has_password name password) (plain_users entries))
     ≡ list_any (accepts_login name password) entries
 any_accepts name password [] = refl
@@ -45,7 +46,7 @@ joined : (a b c : Bool) (x y : Option RefusalCode) → (a || b) ≡ c
 joined true b c x y h = ap (λ (t : Bool). if t then x else y) h
 joined false b c x y h = ap (λ (t : Bool). if t then x else y) h
 
-with_password : (entries : List Entry) (name : List ℕ) (password : Option (List ℕ))
+with_password : (entries : List PasswordEntry) (name : List ℕ) (password : Option (List ℕ))
     → (if is_hashed_one (hashed_users entries) name password then None
     else if is_one_of (plain_users entries) name password then None else Some BadUserNameOrPassword)
     ≡ (if is_accepted entries name password then None else Some BadUserNameOrPassword)
@@ -54,24 +55,24 @@ with_password entries name (Some password) =
     joined (list_any (has_digest name password) (hashed_users entries)) (list_any (has_password name password) (plain_users entries))
     (list_any (accepts_login name password) entries) None (Some BadUserNameOrPassword) (any_accepts name password entries)
 
-pub exact : (entries : List Entry) (login : Option Login)
+pub exact : (entries : List PasswordEntry) (login : Option Login)
     → refusal_by_tables (Some (plain_users entries)) (Some (hashed_users entries)) login ≡ refusal_by_entries entries login
 exact entries None = refl
 exact entries (Some login) = with_password entries login.name login.password
 
 -- the tables after one more entry
-pub one_more : (entries : List Entry) (users : List User) (hashed : List HashedUser) (entry : Entry)
+pub one_more : (entries : List PasswordEntry) (users : List User) (hashed : List HashedUser) (entry : PasswordEntry)
     → AreTablesOf entries users hashed
     → AreTablesOf (entries ++ entry ∷ []) (users ++ plain_with entry.name entry.stored) (hashed ++ hashed_with entry.name entry.stored)
 one_more entries users hashed entry so = record {
   plain = ap (λ (l : List User). l ++ plain_with entry.name entry.stored) so.plain
-      ∙ flat_map_more (λ (e : Entry). plain_with e.name e.stored) [] entries entry;
+      ∙ flat_map_more (λ (e : PasswordEntry). plain_with e.name e.stored) [] entries entry;
   digests = ap (λ (l : List HashedUser). l ++ hashed_with entry.name entry.stored) so.digests
-      ∙ flat_map_more (λ (e : Entry). hashed_with e.name e.stored) [] entries entry;
+      ∙ flat_map_more (λ (e : PasswordEntry). hashed_with e.name e.stored) [] entries entry;
 }
 
 -- the tables of the entries of a file
-pub read_tables : (file : List ℕ) (entries : List Entry) (users : List User) (hashed : List HashedUser)
+pub read_tables : (file : List ℕ) (entries : List PasswordEntry) (users : List User) (hashed : List HashedUser)
     → file_gives file ≡ Ok entries → AreTablesOf entries users hashed → ReadsTables file users hashed
 read_tables file entries users hashed read so = record {
   entries = entries;

@@ -7,3 +7,4 @@ pub mod Passwords
 pub mod Prelude
 pub mod Prometheus
 pub mod Response
+pub mod Inside

@@ -13,7 +13,7 @@ use Rattle.mq_packet.specs.declared.connect.Login.{Login}
 use Rattle.mq_route.specs.declared.config.HashedUser.{HashedUser}
 use Rattle.mq_route.specs.declared.config.User.{User}
 use Rattle.mq_route.specs.Welcome.{refusal_by_tables}
-use Rattle.mq_status.specs.declared.passwords.Entry.{Entry}
+use Rattle.mq_status.specs.declared.passwords.PasswordEntry.{PasswordEntry}
 use Rattle.mq_status.specs.declared.passwords.LineError.{LineError}
 use Rattle.mq_status.specs.declared.passwords.LineError.TheVariants as private
 use Rattle.mq_status.specs.declared.passwords.PasswordFault.{PasswordFault}
@@ -78,21 +78,21 @@ name_in text =
     else if fits text && not (has_nul text) then Ok text
     else Err NotText
 
-abbrev pub entry_of : ℕ → Result (List ℕ) PasswordFault → Result Stored PasswordFault → Result Entry PasswordFault
+abbrev pub entry_of : ℕ → Result (List ℕ) PasswordFault → Result Stored PasswordFault → Result PasswordEntry PasswordFault
 entry_of number (Err fault) stored = Err fault
 entry_of number (Ok name) (Err fault) = Err fault
 entry_of number (Ok name) (Ok stored) = Ok (record { line = number; name = name; stored = stored })
 
 -- `NAME:`, and a stored password
-abbrev pub entry_in : ℕ → List ℕ → Result Entry PasswordFault
+abbrev pub entry_in : ℕ → List ℕ → Result PasswordEntry PasswordFault
 entry_in number line = entry_of number (name_in (before_first is_colon line)) (stored_in (after_first is_colon line))
 
-abbrev pub some_of : Result Entry PasswordFault → Result (Option Entry) PasswordFault
+abbrev pub some_of : Result PasswordEntry PasswordFault → Result (Option PasswordEntry) PasswordFault
 some_of (Ok entry) = Ok (Some entry)
 some_of (Err fault) = Err fault
 
 -- the entry of a line, or why it has none
-abbrev pub line_gives : ℕ → List ℕ → Result (Option Entry) PasswordFault
+abbrev pub line_gives : ℕ → List ℕ → Result (Option PasswordEntry) PasswordFault
 line_gives number line =
     if is_skipped line then Ok None
     else if has_colon line then some_of (entry_in number line)
@@ -101,19 +101,19 @@ line_gives number line =
 -- ---- a file
 
 -- the entries of a line come before those of the lines behind it
-abbrev pub before : Result (Option Entry) PasswordFault → ℕ → Result (List Entry) (ℕ × PasswordFault) → Result (List Entry) (ℕ × PasswordFault)
+abbrev pub before : Result (Option PasswordEntry) PasswordFault → ℕ → Result (List PasswordEntry) (ℕ × PasswordFault) → Result (List PasswordEntry) (ℕ × PasswordFault)
 before (Err fault) number rest = Err (number, fault)
 before (Ok None) number rest = rest
 before (Ok (Some entry)) number (Ok entries) = Ok (entry ∷ entries)
 before (Ok (Some entry)) number (Err fault) = Err fault
 
 -- the entries of lines that are numbered from `number` on, or the first fault with its line
-abbrev pub lines_give : ℕ → List (List ℕ) → Result (List Entry) (ℕ × PasswordFault)
+abbrev pub lines_give : ℕ → List (List ℕ) → Result (List PasswordEntry) (ℕ × PasswordFault)
 lines_give number [] = Ok []
 lines_give number (line ∷ more) = before (line_gives number line) number (lines_give (number + 1) more)
 
 -- the entries of a file, or its first fault
-abbrev pub file_gives : List ℕ → Result (List Entry) (ℕ × PasswordFault)
+abbrev pub file_gives : List ℕ → Result (List PasswordEntry) (ℕ × PasswordFault)
 file_gives file = lines_give 1 (lines file)
 
 -- The result is the expected one, unless an allocation fails.
@@ -123,22 +123,10 @@ Gives expected (Err (private.Fault fault)) = expected ≡ Err fault
 Gives expected (Err private.Memory) = ⊤
 
 -- The entry of a line, if it has one, is added at the end.
-abbrev pub Adds : Result (Option Entry) PasswordFault → List Entry → List Entry → Type 0
+abbrev pub Adds : Result (Option PasswordEntry) PasswordFault → List PasswordEntry → List PasswordEntry → Type 0
 Adds (Ok None) old new = new ≡ old
 Adds (Ok (Some entry)) old new = new ≡ old ++ entry ∷ []
 Adds (Err fault) old new = ⊥
-
--- The error is that of a line, or an allocation fails.
-abbrev pub RefusesLine : ℕ → Result (Option Entry) PasswordFault → PasswordsError → Type 0
-RefusesLine number expected (errors.Line line fault) = (expected ≡ Err fault) × (line ≡ number)
-RefusesLine number expected errors.NotUtf8 = ⊥
-RefusesLine number expected errors.Memory = ⊤
-
--- The error is that of the lines, or an allocation fails.
-abbrev pub RefusesLines : Result (List Entry) (ℕ × PasswordFault) → PasswordsError → Type 0
-RefusesLines expected (errors.Line number fault) = expected ≡ Err (number, fault)
-RefusesLines expected errors.NotUtf8 = ⊥
-RefusesLines expected errors.Memory = ⊤
 
 -- The error is that of the file, or an allocation fails.
 abbrev pub Refuses : List ℕ → PasswordsError → Type 0
@@ -149,16 +137,16 @@ Refuses file errors.Memory = ⊤
 -- ---- logins
 
 -- an entry has this name and accepts this password
-abbrev pub accepts_login : List ℕ → List ℕ → Entry → Bool
+abbrev pub accepts_login : List ℕ → List ℕ → PasswordEntry → Bool
 accepts_login name password entry = bytes_eq entry.name name && accepts entry.stored password
 
 -- a login without a password is that of no entry
-abbrev pub is_accepted : List Entry → List ℕ → Option (List ℕ) → Bool
+abbrev pub is_accepted : List PasswordEntry → List ℕ → Option (List ℕ) → Bool
 is_accepted entries name None = false
 is_accepted entries name (Some password) = list_any (accepts_login name password) entries
 
 -- why entries refuse a login: it must be there, and one of them must accept it (3.1.3.4)
-abbrev pub refusal_by_entries : List Entry → Option Login → Option RefusalCode
+abbrev pub refusal_by_entries : List PasswordEntry → Option Login → Option RefusalCode
 refusal_by_entries entries None = Some NotAuthorized
 refusal_by_entries entries (Some login) =
     if is_accepted entries login.name login.password then None else Some BadUserNameOrPassword
@@ -174,21 +162,16 @@ hashed_with name (Plain password) = []
 hashed_with name (Sha256 salt digest) = record { name = name; salt = salt; digest = digest } ∷ []
 
 -- the users with plain passwords, in order
-abbrev pub plain_users : List Entry → List User
+abbrev pub plain_users : List PasswordEntry → List User
 plain_users entries = flat_map (λ entry. plain_with entry.name entry.stored) entries
 
 -- the users with digests, in order
-abbrev pub hashed_users : List Entry → List HashedUser
+abbrev pub hashed_users : List PasswordEntry → List HashedUser
 hashed_users entries = flat_map (λ entry. hashed_with entry.name entry.stored) entries
-
--- The two tables have the users of the entries.
-pub record AreTablesOf (entries : List Entry) (users : List User) (hashed : List HashedUser) : Type 0 where
-  pub plain : users ≡ plain_users entries
-  pub digests : hashed ≡ hashed_users entries
 
 -- The tables are those of a file: a broker with them refuses the logins that no entry accepts.
 pub record ReadsTables (file : List ℕ) (users : List User) (hashed : List HashedUser) : Type 0 where
-  pub entries : List Entry
+  pub entries : List PasswordEntry
   pub read : file_gives file ≡ Ok entries
   pub refusal : (login : Option Login) → refusal_by_tables (Some users) (Some hashed) login ≡ refusal_by_entries entries login
 
@@ -216,7 +199,7 @@ written salt password = Sha256 salt (sha256 (salt ++ password))
 
 pub record PasswordLaws : Type 0 where
   -- A broker with the tables of entries refuses the logins that no entry accepts.
-  pub exact : (entries : List Entry) (login : Option Login)
+  pub exact : (entries : List PasswordEntry) (login : Option Login)
       → refusal_by_tables (Some (plain_users entries)) (Some (hashed_users entries)) login ≡ refusal_by_entries entries login
   -- A line that is written reads as its name, and the digest of its salt and password.
   pub reads : (number : ℕ) (name salt password : List ℕ) → is_name name ≡ true → is_field salt ≡ true

@@ -30,8 +30,8 @@ pub use crate::log::{LogLine, log_laws, write_log};
 pub use crate::metrics::{Gauges, Metrics};
 pub use crate::page::{MAX_ROWS, RowState, SessionRow, write_page};
 pub use crate::passwords::{
-    Entry, PasswordFault, PasswordLineError, PasswordsError, Stored, UserTables, password_laws,
-    password_line, read_passwords, read_users,
+    PasswordEntry, PasswordFault, PasswordLineError, PasswordsError, Stored, UserTables,
+    password_laws, password_line, read_passwords, read_users,
 };
 pub use crate::prometheus::write_prometheus;
 pub use crate::response::write_response;

@@ -99,7 +99,7 @@ pub enum Stored {
 
 /// An entry of the file.
 #[derive(Drop)]
-pub struct Entry {
+pub struct PasswordEntry {
     /// The number of its line, from 1 on.
     pub line: usize,
     /// The user name (3.1.3.4).
@@ -210,12 +210,17 @@ fn is_skipped(line: &str) -> bool
 }
 
 // Reads an entry.
-fn read_entry(alloc: Global, number: usize, name: &str, password: &str) -> Result<Entry, LineError>
+fn read_entry(
+    alloc: Global,
+    number: usize,
+    name: &str,
+    password: &str,
+) -> Result<PasswordEntry, LineError>
     ensures { Gives (entry_of number (name_in name.now) (stored_in password.now)) result }
 {
     let name = read_name(alloc, name)?;
     let stored = read_stored(alloc, password)?;
-    Ok(Entry {
+    Ok(PasswordEntry {
         line: number,
         name,
         stored,
@@ -223,7 +228,7 @@ fn read_entry(alloc: Global, number: usize, name: &str, password: &str) -> Resul
 }
 
 // Reads a line.
-fn read_line(alloc: Global, number: usize, line: &str) -> Result<Option<Entry>, LineError>
+fn read_line(alloc: Global, number: usize, line: &str) -> Result<Option<PasswordEntry>, LineError>
     ensures { Gives (line_gives number line.now) result }
 {
     if is_skipped(line) {
@@ -250,7 +255,7 @@ fn push_line(
     alloc: Global,
     number: usize,
     line: &str,
-    entries: &mut Vec<Entry>,
+    entries: &mut Vec<PasswordEntry>,
 ) -> Result<(), PasswordsError>
     ensures entries { IfOk result (λ _.
         Adds (line_gives number line.now) entries.old.items entries.new.items) }
@@ -269,7 +274,7 @@ fn push_line(
 
 // Reads lines.
 #[tactic(auto, using(crate::proofs::Joined::behind_none, crate::proofs::Joined::line_next, crate::proofs::Joined::line_refused))]
-fn read_lines(alloc: Global, lines: &[&str]) -> Result<Vec<Entry>, PasswordsError>
+fn read_lines(alloc: Global, lines: &[&str]) -> Result<Vec<PasswordEntry>, PasswordsError>
     ensures entries { IfOk result (λ entries.
         lines_give 1 (map (λ x. x.now) lines.now) ≡ Ok entries.items) }
     ensures refusal { IfErr result (RefusesLines (lines_give 1 (map (λ x. x.now) lines.now))) }
@@ -286,7 +291,7 @@ fn read_lines(alloc: Global, lines: &[&str]) -> Result<Vec<Entry>, PasswordsErro
 /// Reads a file of passwords. A line is `NAME:PASSWORD` or `NAME:sha256:SALT:HEX`, where HEX is the
 /// SHA-256 digest of SALT followed by the password, in hexadecimal. Empty lines and lines that
 /// begin with `#` are skipped. A name may have several lines, each with a password of its own.
-pub fn read_passwords(alloc: Global, file: &[u8]) -> Result<Vec<Entry>, PasswordsError>
+pub fn read_passwords(alloc: Global, file: &[u8]) -> Result<Vec<PasswordEntry>, PasswordsError>
     ensures entries { IfOk result (λ entries. file_gives file.now ≡ Ok entries.items) }
     ensures refusal { IfErr result (Refuses file.now) }
 {
@@ -308,14 +313,14 @@ pub struct UserTables {
 
 // The tables with the users of the entries, in order.
 #[tactic(auto, using(crate::proofs::Logins::one_more))]
-fn tables_of(alloc: Global, entries: Vec<Entry>) -> Result<UserTables, AllocError>
+fn tables_of(alloc: Global, entries: Vec<PasswordEntry>) -> Result<UserTables, AllocError>
     ensures { IfOk result (λ tables.
         AreTablesOf entries.items tables.users tables.hashed_users) }
 {
     let mut users = Vec::new(alloc);
     let mut hashed_users = Vec::new(alloc);
     for entry in entries {
-        let Entry { name, stored, .. } = entry;
+        let PasswordEntry { name, stored, .. } = entry;
         match stored {
             Stored::Plain(password) => users.push(User { name, password })?,
             Stored::Sha256 { salt, digest } => {

@@ -4,7 +4,8 @@ use Rattle.std.proofs.lemmas.Fmt.{decimal_injective}
 use Rattle.std.proofs.lemmas.List.{append_cancel_left}
 use Rattle.mq_file.specs.FolderHistory.{FolderCall, files_after}
 use Rattle.mq_file.specs.Named.{AreApart, IsEitherPair}
-use Rattle.mq_store.specs.Continued.{IsContinued, MayContinue, journal_path, next_path, snapshot_path}
+use Rattle.mq_store.specs.Continued.{IsContinued, MayContinue, journal_path, snapshot_path}
+use Rattle.mq_store.specs.Inside.Continued.{next_path}
 
 -- names that differ in a byte behind the folder's name
 differ : (path first second : List ℕ) (at : ℕ) → (slice_index first at ≡ slice_index second at → ⊥) → path ++ first ≡ path ++ second → ⊥

@@ -10,9 +10,11 @@ use Rattle.mq_record.specs.declared.fault.RecordFault.{RecordFault}
 use Rattle.mq_record.specs.Laws.{RecordLaws}
 use Rattle.mq_record.specs.Reading.{IsEntry, StopsAt}
 use Rattle.mq_route.specs.declared.event.HubEvent.{HubEvent}
-use Rattle.mq_durable.specs.Recorded.{AreReadable, IsReadable, events_in}
+use Rattle.mq_durable.specs.Recorded.{IsReadable, events_in}
+use Rattle.mq_durable.specs.Inside.Recorded.{AreReadable}
 use Rattle.mq_durable.proofs.Entries.{found}
-use Rattle.mq_store.specs.Restoring.{MayBeLeft, may_end}
+use Rattle.mq_store.specs.Restoring.{MayBeLeft}
+use Rattle.mq_store.specs.Inside.Restoring.{may_end}
 
 pub readable : (laws : RecordLaws) (events : List HubEvent) (entry : List ℕ) → IsEntry events entry → IsTrue true ↔ IsEntry (events_in entry) entry
 readable laws events entry is =

@@ -5,7 +5,8 @@ use Rattle.mq_route.specs.declared.event.HubEvent.{HubEvent}
 use Rattle.mq_route.specs.Hub.{HubConnection, HubState}
 use Rattle.mq_route.specs.Snapshot.{IsKeptWhole, IsStorable, SnapshotLaws, quieted, restored, snapshot}
 use Rattle.mq_log.specs.Blocks.{at_rest, gate, rest}
-use Rattle.mq_durable.specs.Recorded.{IsReadable, events_in, events_in_all, events_of}
+use Rattle.mq_durable.specs.Recorded.{IsReadable, events_in, events_of}
+use Rattle.mq_durable.specs.Inside.Recorded.{events_in_all}
 use Rattle.mq_durable.specs.Recovering.{HasEnded}
 use Rattle.mq_durable.specs.Replaying.{Replays}
 use Rattle.mq_durable.proofs.Entries.{of_none}

@@ -13,9 +13,6 @@ use Rattle.mq_store.specs.SnapshotFile.{saved_file}
 abbrev pub snapshot_path : List ℕ → List ℕ
 snapshot_path path = path ++ codes "/snapshot"
 
-abbrev pub next_path : List ℕ → List ℕ
-next_path path = path ++ codes "/snapshot.next"
-
 abbrev pub journal_path : List ℕ → ℕ → List ℕ
 journal_path path nth = path ++ (codes "/journal." ++ decimal nth)
 

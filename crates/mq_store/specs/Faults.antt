@@ -10,7 +10,7 @@ use Rattle.mq_durable.specs.declared.fault.RecoverError.TheVariants as recoverie
 use Rattle.mq_snapshot.specs.declared.fault.SnapshotFault.{SnapshotFault}
 use Rattle.mq_snapshot.specs.declared.fault.SnapshotFault.TheVariants as snapshots
 use Rattle.mq_store.specs.declared.fault.StoreError.{StoreError}
-use Rattle.mq_store.specs.declared.fault.StoreError.TheVariants.{InUse, Folder, Unreadable, Unwritten, Full, Snapshot, Capacity, TooLarge, Damaged, Entry, Refused, Memory}
+use Rattle.mq_store.specs.declared.fault.StoreError.TheVariants.{InUse, Folder, Unreadable, Unwritten, Full, Snapshot, TooLarge, Damaged, Entry, Refused, Memory}
 
 abbrev pub of_folder : FolderError → StoreError
 of_folder folders.InUse = InUse
@@ -42,10 +42,3 @@ of_part snapshots.Version = Snapshot
 of_part snapshots.Malformed = Snapshot
 of_part snapshots.TooLarge = Snapshot
 of_part snapshots.Memory = Memory
-
--- a configuration does not allow a broker that was restored
-abbrev pub of_configuration : SnapshotFault → StoreError
-of_configuration snapshots.Version = Capacity
-of_configuration snapshots.Malformed = Capacity
-of_configuration snapshots.TooLarge = TooLarge
-of_configuration snapshots.Memory = Memory

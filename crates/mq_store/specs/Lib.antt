@@ -4,3 +4,4 @@ pub mod Faults
 pub mod Prelude
 pub mod Restoring
 pub mod SnapshotFile
+pub mod Inside

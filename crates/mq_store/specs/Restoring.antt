@@ -1,8 +1,6 @@
 -- A broker that is restored from a snapshot and the journal that follows it.
-use Rattle.std.specs.Prelude.{◌≡◌, ◌≢◌, ◌⊎◌, Bool, true, false, ℕ, List, [], length}
+use Rattle.std.specs.Prelude.{◌≡◌, ◌≢◌, ◌⊎◌, ℕ, List, [], length}
 use Rattle.mq_log.specs.Blocks.{gate, rest}
-use Rattle.mq_log.specs.declared.reader.Tail.{Tail}
-use Rattle.mq_log.specs.declared.reader.Tail.TheVariants.{Closed, Torn, CutShort, Damaged}
 use Rattle.mq_durable.specs.declared.condition.Condition.TheVariants.{Sound}
 use Rattle.mq_durable.specs.Recorded.{IsReadable, events_of}
 use Rattle.mq_durable.specs.Recovering.{HasEnded}
@@ -20,13 +18,6 @@ use Rattle.mq_store.specs.SnapshotFile.{snapshot_file}
 -- is behind the entries.
 abbrev pub MayBeLeft : List ℕ → Type 0
 MayBeLeft file = IsReadable file × (gate (rest file) ≢ 1)
-
--- whether a crash may leave a file of a journal that ends so
-abbrev pub may_end : Tail → Bool
-may_end Closed = true
-may_end Torn = true
-may_end CutShort = false
-may_end Damaged = false
 
 -- Exactly the events of a journal came to a broker, and then its connections ended.
 pub record EndsAfter (begun : HubState) (journal : List ℕ) (new : HubState) : Type 0 where

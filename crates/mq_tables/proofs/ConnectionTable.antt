@@ -15,8 +15,10 @@ use Rattle.mq_route.specs.Hub.{HubConnection, is_for, is_connection, key_on, kno
 use Rattle.mq_route.specs.Routed.{same_conn}
 use Rattle.mq_route.specs.Welcome.{up_count}
 use Rattle.mq_tables.specs.declared.connections.connection.Connection.{Connection}
-use Rattle.mq_tables.specs.Alarms.{AlarmTable, AreAwaited}
-use Rattle.mq_tables.specs.Connections.{connections_of, connection_of, ups_of, up_in, has_key, AreUpOnce, Service, IsNamedAt, IsServed, IsServedBy, AreConnections}
+use Rattle.mq_tables.specs.Alarms.{AlarmTable}
+use Rattle.mq_tables.specs.Inside.Alarms.{AreAwaited}
+use Rattle.mq_tables.specs.Connections.{connections_of, connection_of, ups_of, up_in, has_key, AreUpOnce, Service, IsServed, IsServedBy, AreConnections}
+use Rattle.mq_tables.specs.Inside.Connections.{IsNamedAt}
 
 abbrev pub Entry : Type 0
 Entry = Conn × Connection

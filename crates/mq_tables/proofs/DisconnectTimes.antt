@@ -5,7 +5,7 @@ use Rattle.std.specs.List.{AllByRecursion}
 use Rattle.std.specs.Str.{bytes_eq}
 use Rattle.mq_packet.specs.declared.connect.Connect.{Connect}
 use Rattle.mq_packet.specs.declared.message.Message.{Message}
-use Rattle.mq_end.specs.Ready.{HasRise}
+use Rattle.mq_end.specs.Ready.{HasConnectRoom}
 use Rattle.mq_route.specs.Hub.{HubSession, key_of, with_left}
 use Rattle.mq_tables.specs.declared.sessions.session.BrokerSession.{BrokerSession}
 use Rattle.mq_tables.specs.Connecting.{HasConnectRoomAt}
@@ -141,10 +141,10 @@ module _ (key now : ℕ) where
   pub room_marked : (c : Connect) (other : ℕ) (ms : List Message) (more : ℕ) (ts : List BrokerSession) → HasConnectRoomAt c other ms more ts → HasConnectRoomAt c other ms more (marked_at key now ts)
   room_marked c other ms more ts h =
       let s = h.session in
-      record { session = marking key now s; there = at s ts h.there; connect_end = cond_both (eqb s.key key) (stamped s) s (λ (x : BrokerSession). HasRiseOf x) (λ e. h.connect_end) (λ e. h.connect_end) }
+      record { session = marking key now s; there = at s ts h.there; connect_end = cond_both (eqb s.key key) (stamped s) s (λ (x : BrokerSession). HasConnectRoomOf x) (λ e. h.connect_end) (λ e. h.connect_end) }
     where
-      HasRiseOf : BrokerSession → Type 0
-      HasRiseOf x = HasRise c ms more x.end
+      HasConnectRoomOf : BrokerSession → Type 0
+      HasConnectRoomOf x = HasConnectRoom c ms more x.end
 
       at : (s : BrokerSession) (ts : List BrokerSession) → session_at other ts ≡ Some s → session_at other (marked_at key now ts) ≡ Some (marking key now s)
       at s [] there = absurd cc

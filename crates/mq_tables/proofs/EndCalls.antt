@@ -10,7 +10,7 @@ use Rattle.mq_end.specs.declared.packet_outcome.PacketOutcome.{PacketOutcome}
 use Rattle.mq_end.specs.declared.refusal.PublishRefusal.{PublishRefusal}
 use Rattle.mq_end.specs.declared.state.State.{State}
 use Rattle.mq_end.specs.declared.state.State.TheVariants.{Disconnected, Connecting, Connected}
-use Rattle.mq_end.specs.End.{End, Reply, puts_out, is_live, is_up}
+use Rattle.mq_end.specs.End.{End, Reply, sends_packets, is_live, is_up}
 use Rattle.mq_end.specs.Ready.{FitsRoom, HasRoom, is_exactly_once, packets_size, whole_size}
 use Rattle.mq_end.specs.Receiving.{Acts, TakesPacket, no_outcome, outcome_of, told_of}
 use Rattle.mq_end.specs.Server.{ready_refusal, server_gets, suback_refusal, unsuback_refusal}
@@ -75,7 +75,7 @@ is_ok_told m (Err e) x = x
 -- ---- it answers
 
 -- an answer of one packet with this remaining length (2.2.3)
-module _ (encoding : EncodingLaws) (call : Call) (p : Packet) (size : ℕ) (old new : EndState) (reply : reply_of call old.end ≡ puts_out (p ∷ []) old.end)
+module _ (encoding : EncodingLaws) (call : Call) (p : Packet) (size : ℕ) (old new : EndState) (reply : reply_of call old.end ≡ sends_packets (p ∷ []) old.end)
     (long : length (fields p) ≡ size) where
   with_size : (ms : List Message) (more : ℕ) → HasRoom ms (packets_size (reply_of call old.end).out + more) old → HasRoom ms (whole_size size + more) old
   with_size ms more room =
@@ -83,7 +83,7 @@ module _ (encoding : EncodingLaws) (call : Call) (p : Packet) (size : ℕ) (old 
       (ap (λ (r : Reply). packets_size r.out + more) reply ∙ (let w : packets_size (p ∷ []) + more ≡ whole_size size + more = omega (arith, long) in w)) room
 
   pub answer_serves : (r : Result ⊤ PublishRefusal) (answer : Result PacketOutcome AllocError) → OnOk r (answer ≡ Ok no_outcome) → OnErr r (IsErr answer)
-      → OnOk r (Acts (puts_out (p ∷ []) old.end) old new) → OnErr r (new ≡ old)
+      → OnOk r (Acts (sends_packets (p ∷ []) old.end) old new) → OnErr r (new ≡ old)
       → ((ms : List Message) (more : ℕ) → HasRoom ms (whole_size size + more) old → IsOk r × HasRoom ms more new) → Serves call answer old new
   answer_serves (Ok x) answer is failed acts err kept =
       subst (λ (a : Result PacketOutcome AllocError). Serves call a old new) (sym is) (record {

@@ -8,7 +8,7 @@ use Rattle.mq_topic.specs.declared.qos.Qos.TheVariants.{Q0, Q1, Q2}
 use Rattle.mq_packet.specs.declared.message.Message.{Message}
 use Rattle.mq_packet.specs.declared.packet.Packet.{Packet}
 use Rattle.mq_packet.specs.Encoding.{EncodingLaws, encodings, EncodesAll as IsEncoded}
-use Rattle.mq_flow.specs.declared.entry.Entry.{Entry}
+use Rattle.mq_flow.specs.declared.entry.SenderEntry.{SenderEntry}
 use Rattle.mq_flow.specs.Next.{NextLaws, next_identifier}
 use Rattle.mq_flow.specs.Sender.{SenderBook, accept, uses}
 use Rattle.mq_end.specs.declared.refusal.PublishRefusal.{PublishRefusal}
@@ -94,13 +94,13 @@ after_state Q2 i m e = refl
 
 one_more : (i : ℕ) (m : Message) (sent : Bool) (b : SenderBook) → length (uses (accept i m sent b)) ≡ 1 + length (uses b)
 one_more i m sent b =
-    let x : Entry = record { id = i; message = m; sent = sent } in
+    let x : SenderEntry = record { id = i; message = m; sent = sent } in
     let rest = b.released ++ map (λ c. c.id) b.claimed in
-    let a = length-append (map (λ (e : Entry). e.id) (b.entries ++ x ∷ [])) rest in
-    let c = length-map (b.entries ++ x ∷ []) (λ (e : Entry). e.id) in
+    let a = length-append (map (λ (e : SenderEntry). e.id) (b.entries ++ x ∷ [])) rest in
+    let c = length-map (b.entries ++ x ∷ []) (λ (e : SenderEntry). e.id) in
     let d = length-append b.entries (x ∷ []) in
-    let f = length-append (map (λ (e : Entry). e.id) b.entries) rest in
-    let g = length-map b.entries (λ (e : Entry). e.id) in
+    let f = length-append (map (λ (e : SenderEntry). e.id) b.entries) rest in
+    let g = length-map b.entries (λ (e : SenderEntry). e.id) in
     omega arith
 
 pub after_uses : (q : Qos) (i : ℕ) (m : Message) (e : End) → length (uses (publishes_at q i m e).end.book) ≡ cond (has_identifier q) 1 0 + length (uses e.book)

@@ -10,7 +10,7 @@ use Rattle.mq_topic.specs.declared.qos.Qos.{Qos}
 use Rattle.mq_topic.specs.Rows.{Key, Row, is_key, key_cmp, row_qos, with_row, without_row, IsAscending}
 use Rattle.mq_topic.specs.StoreLaws.{StoreLaws}
 use Rattle.mq_topic.proofs.Keys.{key_cmp-same, key_cmp-total}
-use Rattle.mq_tables.specs.Subscriptions.{AreThere, Before, IsThere, row_back, rows_back}
+use Rattle.mq_tables.specs.Inside.Subscriptions.{AreThere, Before, IsThere, row_back, rows_back}
 
 -- ---- one row
 

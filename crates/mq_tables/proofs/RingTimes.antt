@@ -16,9 +16,12 @@ use Rattle.mq_route.specs.Routed.{same_conn}
 use Rattle.mq_route.specs.Step.{has_passed}
 use Rattle.mq_tables.specs.declared.alarms.Alarm.{Alarm}
 use Rattle.mq_tables.specs.declared.connections.connection.Connection.{Connection}
-use Rattle.mq_tables.specs.Alarms.{AlarmTable, AreAwaited, AreAwaitedBut, IsAwaited, IsQuiet, RingsWith, is_late_on, is_named}
-use Rattle.mq_tables.specs.Connections.{IsTimely, connection_of, connections_of}
-use Rattle.mq_tables.specs.Late.{AreInTime, HasLate, HasLateBut, HasLateNamed}
+use Rattle.mq_tables.specs.Alarms.{AlarmTable, IsAwaited, IsQuiet, is_late_on}
+use Rattle.mq_tables.specs.Inside.Alarms.{AreAwaited, AreAwaitedBut, RingsWith, is_named}
+use Rattle.mq_tables.specs.Connections.{connection_of, connections_of}
+use Rattle.mq_tables.specs.Inside.Connections.{IsTimely}
+use Rattle.mq_tables.specs.Late.{AreInTime, HasLate}
+use Rattle.mq_tables.specs.Inside.Late.{HasLateBut, HasLateNamed}
 use Rattle.mq_tables.proofs.ConnectionTable.{AreNamed, Entry, itself, one_conn, symm}
 
 -- ---- an alarm more, and one less

@@ -14,28 +14,29 @@ use Rattle.mq_packet.specs.declared.packet.Packet.TheVariants as packets
 use Rattle.mq_packet.specs.declared.publish.Delivery.{Delivery}
 use Rattle.mq_packet.specs.Publication.{fits_delivery}
 use Rattle.mq_packet.specs.Encoding.{fields}
-use Rattle.mq_flow.specs.declared.entry.Entry.{Entry}
+use Rattle.mq_flow.specs.declared.entry.SenderEntry.{SenderEntry}
 use Rattle.mq_flow.specs.Next.{next_identifier}
 use Rattle.mq_flow.specs.Sender.{SenderBook, accept, blank_book, no_claims, publish_packet, resent, uses}
 use Rattle.mq_end.specs.declared.refusal.PublishRefusal.{PublishRefusal}
 use Rattle.mq_end.specs.declared.refusal.PublishRefusal.TheVariants as refusals
 use Rattle.mq_end.specs.declared.state.State.TheVariants.{Disconnected}
 use Rattle.mq_end.specs.Both.{publishes_at}
-use Rattle.mq_end.specs.End.{End, Reply, comes_up, is_up, renewed}
-use Rattle.mq_end.specs.Ready.{AreEncodable, HasRise, packets_size, size_at_once, whole_size}
+use Rattle.mq_end.specs.End.{End, Reply, becomes_connected, is_up, renewed}
+use Rattle.mq_end.specs.Ready.{AreEncodable, HasConnectRoom, packets_size, size_at_once, whole_size}
 use Rattle.mq_end.specs.Server.{connect_gets, opens, ready_refusal, refuses, server_gets}
 use Rattle.mq_end.specs.SizeLaws.{SizeLaws}
 use Rattle.mq_end.specs.Sizes.{publish_size}
 use Rattle.mq_end.specs.State.{EndState}
 use Rattle.mq_tables.specs.declared.sessions.session.BrokerSession.{BrokerSession}
 use Rattle.mq_tables.specs.Publishing.{placed_at, published, AreSameButRoom, AreStillReady, IsReadyAt, ReadiesAt}
-use Rattle.mq_tables.specs.Connecting.{roomed, HasConnectRoomAt, IsEnlarged}
+use Rattle.mq_tables.specs.Connecting.{roomed, HasConnectRoomAt}
+use Rattle.mq_tables.specs.Inside.Connecting.{IsEnlarged}
 use Rattle.mq_tables.specs.Sessions.{session_at, with_server, AreAscending}
 use Rattle.mq_tables.proofs.SessionRoom.{changed_other, changed_own, ready_same, ready_still, same_session, some_same}
 
 -- ---- an end that is another
 
-pub rise_with : (c : Connect) (key : ℕ) (ms : List Message) (more : ℕ) (e : EndState) (t : BrokerSession) (ts : List BrokerSession) → session_at key ts ≡ Some t → HasRise c ms more e
+pub rise_with : (c : Connect) (key : ℕ) (ms : List Message) (more : ℕ) (e : EndState) (t : BrokerSession) (ts : List BrokerSession) → session_at key ts ≡ Some t → HasConnectRoom c ms more e
     → HasConnectRoomAt c key ms more (with_server key e ts)
 rise_with c key ms more e t ts there h = record { session = record t { end = e }; there = changed_own (λ (x : EndState). e) key t ts there; connect_end = h }
 
@@ -143,7 +144,7 @@ is_refused c = not c.clean_session && eqb (length c.client_id) 0
 connect_puts : (c : Connect) (e : End) → (connect_gets c e).out ≡ out_of (is_refused c) c.clean_session e.known e.book
 connect_puts c e =
     out_by (is_refused c) (refuses IdentifierRejected e)
-    (comes_up (packets.ConnAck (connacks.Accepted (not c.clean_session && e.known)) ∷ []) (not c.clean_session && e.known)
+    (becomes_connected (packets.ConnAck (connacks.Accepted (not c.clean_session && e.known)) ∷ []) (not c.clean_session && e.known)
     (record (renewed c.clean_session e) { keep_alive = c.keep_alive }))
 
 sizes_joined : (ps qs : List Packet) → packets_size (ps ++ qs) ≡ packets_size ps + packets_size qs
@@ -155,10 +156,10 @@ encodable_joined [] qs h k = k
 encodable_joined (p ∷ ps) qs h k = (h.0, encodable_joined ps qs h.1 k)
 
 -- the PUBLISHes of messages that are kept
-abbrev kept_packets : List Entry → List Packet
-kept_packets es = map (λ (e : Entry). publish_packet e.id e.sent e.message) es
+abbrev kept_packets : List SenderEntry → List Packet
+kept_packets es = map (λ (e : SenderEntry). publish_packet e.id e.sent e.message) es
 
-kept_more : (es : List Entry) (e : Entry) → kept_packets (es ++ e ∷ []) ≡ kept_packets es ++ publish_packet e.id e.sent e.message ∷ []
+kept_more : (es : List SenderEntry) (e : SenderEntry) → kept_packets (es ++ e ∷ []) ≡ kept_packets es ++ publish_packet e.id e.sent e.message ∷ []
 kept_more [] e = refl
 kept_more (x ∷ es) e = ap (λ (ps : List Packet). publish_packet x.id x.sent x.message ∷ ps) (kept_more es e)
 
@@ -233,8 +234,8 @@ fits_published laws c Q2 i m e is =
     let d : Delivery = record { id = i; dup = is_up e.state } in
     fits_kept c i m (is_up e.state) e (laws.publish m (Some d) (subst (λ (q : Qos). fits_delivery q (Some d) ≡ true) is refl))
 
-pub published_rise : SizeLaws → (c : Connect) (size : ℕ) (m : Message) (s : EndState) → publish_size m ≤ size → size < 2 ^ 28 → HasRise c [] (whole_size size) s
-    → HasRise c [] 0 (published m s)
+pub published_rise : SizeLaws → (c : Connect) (size : ℕ) (m : Message) (s : EndState) → publish_size m ≤ size → size < 2 ^ 28 → HasConnectRoom c [] (whole_size size) s
+    → HasConnectRoom c [] 0 (published m s)
 published_rise laws c size m s fits small h =
     let f = fits_published laws c m.qos (next_identifier s.end.last s.end.book) m s.end refl in
     record {

@@ -12,7 +12,7 @@ use Rattle.mq_packet.specs.declared.packet.Packet.{Packet}
 use Rattle.mq_packet.specs.declared.packet.Packet.TheVariants as packets
 use Rattle.mq_packet.specs.declared.publish.Delivery.{Delivery}
 use Rattle.mq_packet.specs.Encoding.{encoding, encodings, encoded_size, fields, delivery_fields}
-use Rattle.mq_flow.specs.declared.entry.Entry.{Entry}
+use Rattle.mq_flow.specs.declared.entry.SenderEntry.{SenderEntry}
 use Rattle.mq_flow.specs.Next.{next_identifier}
 use Rattle.mq_flow.specs.Sender.{SenderBook, publish_packet, uses}
 use Rattle.mq_flow.specs.Stored.{message_bytes, stored_bytes}
@@ -44,8 +44,8 @@ left_twice (Some most) used total more e =
 
 after_bytes : (q : Qos) (i : ℕ) (m : Message) (e : End) → stored_bytes (publishes_at q i m e).end.book ≡ stored_bytes e.book + cond (has_identifier q) (message_bytes m) 0
 after_bytes Q0 i m e = omega arith
-after_bytes Q1 i m e = sum_by_push (λ (x : Entry). message_bytes x.message) e.book.entries (record { id = i; message = m; sent = is_up e.state })
-after_bytes Q2 i m e = sum_by_push (λ (x : Entry). message_bytes x.message) e.book.entries (record { id = i; message = m; sent = is_up e.state })
+after_bytes Q1 i m e = sum_by_push (λ (x : SenderEntry). message_bytes x.message) e.book.entries (record { id = i; message = m; sent = is_up e.state })
+after_bytes Q2 i m e = sum_by_push (λ (x : SenderEntry). message_bytes x.message) e.book.entries (record { id = i; message = m; sent = is_up e.state })
 
 -- the size of a packet
 pub frame_bytes : (p : Packet) → length (encodings (p ∷ [])) ≡ encoded_size (length (fields p))

@@ -1,17 +1,15 @@
 -- When connections may be late (3.1, 3.1.2.10).
-use Rattle.std.specs.Prelude.{ℕ, Bool, false, Option, List, ◌≡◌, ◌≤◌, ◌||◌, [], ◌∷◌}
+use Rattle.std.specs.Prelude.{ℕ, Bool, false, Option, List, ◌≡◌, ◌≤◌}
 use Rattle.std.specs.declared.cmp.Reverse.{Reverse}
 use Rattle.std.specs.Ordering.{nat_cmp, ordering_then}
 use Rattle.std.specs.declared.cmp.Ordering.{Ordering}
-use Rattle.std.specs.List.{All, AllByRecursion}
+use Rattle.std.specs.List.{All}
 use Rattle.mq_end.specs.KeepAlive.{is_late}
 use Rattle.mq_route.specs.declared.connection_state.ConnectionState.{ConnectionState}
 use Rattle.mq_route.specs.declared.connection_state.ConnectionState.TheVariants.{AwaitingConnect, ConnectedAs, Closed}
 use Rattle.mq_route.specs.Step.{has_passed}
 use Rattle.mq_route.specs.declared.conn.Conn.{Conn}
-use Rattle.mq_route.specs.Routed.{same_conn}
 use Rattle.mq_tables.specs.declared.alarms.Alarm.{Alarm}
-use Rattle.mq_tables.specs.declared.connections.connection.Connection.{Connection}
 
 -- a connection that was opened at this time is late: a tick closes it
 abbrev pub is_late_on : Option ℕ → ℕ → ℕ → ConnectionState → Bool
@@ -37,20 +35,3 @@ IsQuiet table conn now = (now ≤ table.until) × All (λ alarm. alarm.0.conn �
 -- before one of its alarms rings, a connection that was opened at this time is not late
 abbrev pub IsAwaited : Option ℕ → AlarmTable → Conn → ℕ → ConnectionState → Type 0
 IsAwaited within table conn since stage = (now : ℕ) → IsQuiet table conn now → is_late_on within now since stage ≡ false
-
--- every alarm of the first table that rings by some time makes the second table ring by then
-abbrev pub RingsWith : AlarmTable → AlarmTable → Type 0
-RingsWith first second = (conn : Conn) (now : ℕ) → IsQuiet second conn now → IsQuiet first conn now
-
--- this connection is one of these
-abbrev pub is_named : Conn → List Conn → Bool
-is_named conn [] = false
-is_named conn (first ∷ rest) = same_conn conn first || is_named conn rest
-
--- each of these connections is not late before an alarm of its rings
-abbrev pub AreAwaited : Option ℕ → AlarmTable → List (Conn × Connection) → Type 0
-AreAwaited within table = AllByRecursion (λ entry. IsAwaited within table entry.1.conn entry.1.since entry.1.stage)
-
--- the same, except for the connections with these names
-abbrev pub AreAwaitedBut : Option ℕ → List Conn → AlarmTable → List (Conn × Connection) → Type 0
-AreAwaitedBut within names table = AllByRecursion (λ entry. is_named entry.1.conn names ≡ false → IsAwaited within table entry.1.conn entry.1.since entry.1.stage)

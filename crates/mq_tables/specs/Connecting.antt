@@ -4,7 +4,7 @@ use Rattle.mq_packet.specs.declared.connect.Connect.{Connect}
 use Rattle.mq_packet.specs.Encoding.{encodings}
 use Rattle.mq_packet.specs.declared.message.Message.{Message}
 use Rattle.mq_end.specs.State.{EndState, Room, no_bytes}
-use Rattle.mq_end.specs.Ready.{HasRise, HasRoom}
+use Rattle.mq_end.specs.Ready.{HasConnectRoom}
 use Rattle.mq_end.specs.End.{over}
 use Rattle.mq_end.specs.declared.state.State.TheVariants.{Connected}
 use Rattle.mq_route.specs.Arrives.{greeting}
@@ -40,15 +40,7 @@ pub record IsRoomed (key : ℕ) (old new : List BrokerSession) : Type 0 where
 pub record HasConnectRoomAt (connect : Connect) (key : ℕ) (messages : List Message) (more : ℕ) (sessions : List BrokerSession) : Type 0 where
   pub session : BrokerSession
   pub there : session_at key sessions ≡ Some session
-  pub connect_end : HasRise connect messages more session.end
-
--- the end of the session of a key has more room, and lost none
-pub record IsEnlarged (key : ℕ) (old new : List BrokerSession) : Type 0 where
-  pub session : BrokerSession
-  pub there : session_at key old ≡ Some session
-  pub room : Room
-  pub after : new ≡ with_server key (roomed room session.end) old
-  pub before : (messages : List Message) (more : ℕ) → HasRoom messages more session.end → HasRoom messages more (roomed room session.end)
+  pub connect_end : HasConnectRoom connect messages more session.end
 
 -- an end without connection and pending output, which keeps its room
 abbrev pub left : EndState → EndState

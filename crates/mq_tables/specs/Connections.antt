@@ -1,5 +1,5 @@
 -- The table of connections (4.2).
-use Rattle.std.specs.Prelude.{ℕ, List, map, ◌≡◌, slice_get, true, Some, None, Option, ◌≤◌, false, ◌==◌, Bool, [], ◌∷◌, if◌then◌else◌, is_some}
+use Rattle.std.specs.Prelude.{ℕ, List, map, ◌≡◌, Some, None, Option, false, ◌==◌, Bool, [], ◌∷◌, if◌then◌else◌, is_some}
 use Rattle.std.specs.List.{AllByRecursion, IsDistinct, count_by}
 use Rattle.std.specs.Map.{keys_of}
 use Rattle.mq_decode.specs.Grammar.{Pending}
@@ -8,13 +8,12 @@ use Rattle.mq_decode.specs.State.{State}
 use Rattle.mq_route.specs.Hub.{HubConnection, key_on}
 use Rattle.mq_route.specs.declared.conn.Conn.{Conn}
 use Rattle.mq_route.specs.Routed.{same_conn}
-use Rattle.mq_route.specs.declared.connection_state.ConnectionState.{ConnectionState}
 use Rattle.mq_route.specs.declared.connection_state.ConnectionState.TheVariants.{Closed, ConnectedAs}
 use Rattle.mq_route.specs.Arrives.{touched}
 use Rattle.mq_route.specs.declared.connection_state.ConnectionTerms.{ConnectionTerms}
 use Rattle.mq_tables.specs.declared.connections.table.ConnectionLimits.{ConnectionLimits}
 use Rattle.mq_tables.specs.declared.connections.connection.Connection.{Connection}
-use Rattle.mq_tables.specs.Alarms.{AlarmTable, is_late_on, IsAwaited}
+use Rattle.mq_tables.specs.Alarms.{AlarmTable, IsAwaited}
 
 -- The connections in the order in which they were opened, and their limits. Then: for how many more
 -- there is room, how many more may become connected, and how many alarms there are.
@@ -31,10 +30,6 @@ connection_of connection = record { conn = connection.conn; stage = connection.s
 
 abbrev pub connections_of : List (Conn × Connection) → List HubConnection
 connections_of entries = map (λ entry. connection_of entry.1) entries
-
--- the connection at this index has this name
-abbrev pub IsNamedAt : Conn → ℕ → List (Conn × Connection) → Type 0
-IsNamedAt conn index entries = (entry : Conn × Connection) × (slice_get entries index ≡ Some entry) × (same_conn conn entry.0 ≡ true)
 
 -- a decoder has these limits, met no error, and holds no whole packet
 abbrev pub IsDecoding : Bounds → State → Type 0
@@ -53,10 +48,6 @@ pub record Service : Type 0 where
 
 abbrev pub service : ConnectionLimits → AlarmTable → Service
 service limits alarms = record { bounds = limits.packets; within = limits.connect_within; alarms = alarms }
-
--- it is not late up to this time (3.1, 3.1.2.10)
-abbrev pub IsTimely : Option ℕ → ℕ → ℕ → ConnectionState → Type 0
-IsTimely within due since stage = (now : ℕ) → now ≤ due → is_late_on within now since stage ≡ false
 
 -- a connection is served in this way
 abbrev pub IsServedBy : Service → Connection → Type 0

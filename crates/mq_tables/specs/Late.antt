@@ -2,8 +2,7 @@
 use Rattle.std.specs.Prelude.{◌≡◌, ℕ, false, List, Option, true, slice_get, Some}
 use Rattle.std.specs.List.{AllByRecursion, Contains}
 use Rattle.mq_route.specs.Hub.{HubConnection}
-use Rattle.mq_route.specs.declared.conn.Conn.{Conn}
-use Rattle.mq_tables.specs.Alarms.{is_late_on, is_named}
+use Rattle.mq_tables.specs.Alarms.{is_late_on}
 
 -- no connection is late at this time
 abbrev pub AreInTime : Option ℕ → ℕ → List HubConnection → Type 0
@@ -13,14 +12,3 @@ AreInTime within now = AllByRecursion (λ connection. is_late_on within now conn
 abbrev pub HasLate : Option ℕ → ℕ → List HubConnection → List ℕ → Type 0
 HasLate within now connections places = (index : ℕ) (connection : HubConnection) → slice_get connections index ≡ Some connection
     → is_late_on within now connection.since connection.stage ≡ true → Contains places index
-
--- the name of each late connection is among these
-abbrev pub HasLateNamed : Option ℕ → ℕ → List HubConnection → List Conn → Type 0
-HasLateNamed within now connections names = (index : ℕ) (connection : HubConnection) → slice_get connections index ≡ Some connection
-    → is_late_on within now connection.since connection.stage ≡ true → is_named connection.conn names ≡ true
-
--- the index of each late connection is among these, except for those with these names
-abbrev pub HasLateBut : Option ℕ → ℕ → List HubConnection → List Conn → List ℕ → Type 0
-HasLateBut within now connections names places =
-    (index : ℕ) (connection : HubConnection) → slice_get connections index ≡ Some connection
-    → is_late_on within now connection.since connection.stage ≡ true → is_named connection.conn names ≡ false → Contains places index

@@ -13,3 +13,4 @@ pub mod Rules
 pub mod Sessions
 pub mod Subscriptions
 pub mod Tables
+pub mod Inside

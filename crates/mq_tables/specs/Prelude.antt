@@ -1,4 +1,4 @@
--- What the source files of this crate cite. It declares nothing itself.
+-- The names that the source files of this crate cite. It declares none of its own.
 pub use Rattle.std.specs.HashMap.{get, hash_map_len}
 pub use Rattle.std.specs.List.{AllByRecursion, IsDistinct, list_any, prefix_len}
 pub use Rattle.std.specs.List.Sorted.{IsNonDecreasing}
@@ -9,7 +9,7 @@ pub use Rattle.indexmap.specs.IndexMap.{values}
 pub use Rattle.mq_end.specs.Both.{has_identifier}
 pub use Rattle.mq_end.specs.End.{is_up, is_live}
 pub use Rattle.mq_end.specs.KeepAlive.{is_late}
-pub use Rattle.mq_end.specs.Ready.{HasRise, HasRoom}
+pub use Rattle.mq_end.specs.Ready.{HasConnectRoom, HasRoom}
 pub use Rattle.mq_end.specs.Receiving.{no_outcome, told_of}
 pub use Rattle.mq_end.specs.State.{Room}
 pub use Rattle.mq_flow.specs.Sender.{IsFirstFree}
@@ -26,16 +26,21 @@ pub use Rattle.mq_route.specs.Step.{has_passed}
 pub use Rattle.mq_route.specs.Welcome.{up_count, ends_on, ends_with}
 pub use Rattle.mq_route.specs.Work.{drops_copies}
 pub use Rattle.mq_topic.specs.Rows.{with_row, without_client}
-pub use Rattle.mq_tables.specs.Alarms.{IsQuiet, RingsWith, is_named, is_late_on, AreAwaited, AreAwaitedBut, IsAwaited}
+pub use Rattle.mq_tables.specs.Alarms.{IsQuiet, is_late_on, IsAwaited}
+pub use Rattle.mq_tables.specs.Inside.Alarms.{RingsWith, is_named, AreAwaited, AreAwaitedBut}
 pub use Rattle.mq_tables.specs.Calls.{IsAllowed, Serves, publish_call, CanServe, ServesAt}
-pub use Rattle.mq_tables.specs.Connecting.{connected_end, roomed, HasConnected, IsRoomed, left, HasConnectRoomAt, IsEnlarged, parted, HasContinued}
-pub use Rattle.mq_tables.specs.Connections.{connection_of, IsReading, IsTimely, connections_of, IsDecoding, IsNamedAt, touched_at, holds, left_with, connected_for}
+pub use Rattle.mq_tables.specs.Connecting.{connected_end, roomed, HasConnected, IsRoomed, left, HasConnectRoomAt, parted, HasContinued}
+pub use Rattle.mq_tables.specs.Inside.Connecting.{IsEnlarged}
+pub use Rattle.mq_tables.specs.Connections.{connection_of, IsReading, connections_of, IsDecoding, touched_at, holds, left_with, connected_for}
+pub use Rattle.mq_tables.specs.Inside.Connections.{IsTimely, IsNamedAt}
 pub use Rattle.mq_tables.specs.Expiry.{gone_keys, is_gone}
-pub use Rattle.mq_tables.specs.Late.{AreInTime, HasLate, HasLateNamed}
+pub use Rattle.mq_tables.specs.Late.{AreInTime, HasLate}
+pub use Rattle.mq_tables.specs.Inside.Late.{HasLateNamed}
 pub use Rattle.mq_tables.specs.Numbers.{stored_at, all_stored}
 pub use Rattle.mq_tables.specs.Output.{CollectsAt, Collects, output_of}
 pub use Rattle.mq_tables.specs.Publishing.{placed_at, AreSameButRoom, AreStillReady, IsReadyAt, ReadiesAt, published, IsReady, MayGo, Readies}
 pub use Rattle.mq_tables.specs.Retained.{IsKeptOf}
 pub use Rattle.mq_tables.specs.Rules.{rules_of, bytes_of, count_of, fits_left, free_of, has_room, left_of, space_of, skips, space_after}
 pub use Rattle.mq_tables.specs.Sessions.{session_at, with_server, AreAscending, session_of, sessions_of, AreBelow, marked_at, without_key}
-pub use Rattle.mq_tables.specs.Subscriptions.{row_back, rows_back, with_rows, AreThere, IsThere}
+pub use Rattle.mq_tables.specs.Subscriptions.{with_rows}
+pub use Rattle.mq_tables.specs.Inside.Subscriptions.{row_back, rows_back, AreThere, IsThere}

@@ -10,7 +10,8 @@ use Rattle.std.proofs.lemmas.List.Splits.{join_with_byte-slice_split}
 use Rattle.mq_topic.proofs.Keys.{key_cmp-same, key_cmp-total}
 use Rattle.mq_topic.specs.Rows.{Key, is_key, key_cmp}
 use Rattle.mq_topic.specs.Topic.{levels}
-use Rattle.mq_topic.specs.Tree.{ClientIs, Cut, Grown, IsBare, IsLinked, IsNeeded, IsPlace, IsRowPath, IsTrieOf, IsTrieUpTo, IsUsed, Leads, RowMap, SameTree, StandsFor, Tree, row_with, without}
+use Rattle.mq_topic.specs.Tree.{Cut, IsLinked, IsNeeded, IsPlace, IsRowPath, IsTrieOf, Leads, RowMap, StandsFor, Tree, without}
+use Rattle.mq_topic.specs.Inside.Tree.{ClientIs, Grown, IsBare, IsTrieUpTo, IsUsed, SameTree, row_with}
 use Rattle.mq_topic.specs.declared.qos.Qos.{Qos}
 use Rattle.mq_topic.specs.declared.trie_nodes.NodeId.{NodeId}
 use Rattle.std.specs.Str.{bytes_eq}

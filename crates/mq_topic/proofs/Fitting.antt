@@ -2,7 +2,8 @@
 use Rattle.std.proofs.Common.{◌≡◌, ℕ, ◌<◌, Bool, true, false, not, ◌&&◌, List, [], ◌∷◌, length, Option, Some, None, Bor, is_none, is_some, refl, sym, ◌∙◌, arith}
 use Rattle.std.proofs.lemmas.List.Splits.{length-slice_split}
 use Rattle.mq_topic.specs.Topic.{is_slash, levels}
-use Rattle.mq_topic.specs.Matching.{fits, fits_level, is_hash_alone, is_hash_level, levels_left}
+use Rattle.mq_topic.specs.Matching.{fits, fits_level, is_hash_alone, is_hash_level}
+use Rattle.mq_topic.specs.Inside.Matching.{levels_left}
 
 and-false : (b : Bool) → (b && false) ≡ false
 and-false true = refl

@@ -9,7 +9,8 @@ use Rattle.std.specs.declared.cmp.Ordering.{Ordering}
 use Rattle.std.specs.declared.cmp.Ordering.TheVariants.{Less, Equal, Greater}
 use Rattle.mq_topic.specs.Matching.{is_match}
 use Rattle.mq_topic.specs.Qos.{greater}
-use Rattle.mq_topic.specs.Rows.{IsMatched, Row, UpTo, greater_of, greatest, key_cmp, matched, matching_qos, qos_of}
+use Rattle.mq_topic.specs.Rows.{IsMatched, Row, greater_of, greatest, key_cmp, matched, matching_qos, qos_of}
+use Rattle.mq_topic.specs.Inside.Rows.{UpTo}
 use Rattle.mq_topic.specs.declared.qos.Qos.{Qos}
 use Rattle.mq_topic.specs.declared.qos.Qos.TheVariants.{Q0, Q1, Q2}
 use Rattle.mq_topic.proofs.Keys.{nat_ties}

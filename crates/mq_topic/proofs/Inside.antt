@@ -5,7 +5,8 @@ use Rattle.std.specs.Arc.{arc_str_bytes}
 use Rattle.std.specs.Bool.{MatchBool}
 use Rattle.std.specs.Map.{lookup}
 use Rattle.std.specs.Option.{option_or}
-use Rattle.mq_topic.specs.NodeView.{ChildIn, child_beside, is_own, mapped_child, own_child}
+use Rattle.mq_topic.specs.NodeView.{child_beside, mapped_child, own_child}
+use Rattle.mq_topic.specs.Inside.NodeView.{ChildIn, is_own}
 use Rattle.mq_topic.specs.declared.children.Children.{Children}
 use Rattle.mq_topic.specs.declared.level_map.Child.{Child}
 use Rattle.mq_topic.specs.declared.level_map.LevelMap.{LevelMap}

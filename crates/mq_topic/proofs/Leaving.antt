@@ -5,7 +5,8 @@ use Rattle.std.specs.FinMap.{find, is_sorted}
 use Rattle.std.specs.FinMap.Entries.{below_all}
 use Rattle.std.specs.Ordering.{is_eq, is_lt, nat_cmp}
 use Rattle.std.proofs.lemmas.Cmp.{eq_by_cmp_equiv, nat_cmp_total, nat_list_cmp_total}
-use Rattle.mq_topic.specs.Tree.{IsTrieOf, RowMap, Tree, without, without_all}
+use Rattle.mq_topic.specs.Tree.{IsTrieOf, RowMap, Tree, without}
+use Rattle.mq_topic.specs.Inside.Tree.{without_all}
 use Rattle.mq_topic.specs.declared.qos.Qos.{Qos}
 use Rattle.mq_topic.proofs.Changes.{trie_rows}
 use Rattle.mq_topic.proofs.ClientMaps.{equal_number, is_filter, key_parts}

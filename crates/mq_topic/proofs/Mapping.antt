@@ -11,7 +11,8 @@ use Rattle.std.specs.String.{string_bytes, string_cmp}
 use Rattle.std.specs.declared.string.String.{String}
 use Rattle.std.proofs.lemmas.Map.Text.{is_eq-slice_cmp}
 use Rattle.mq_topic.specs.LevelNumber.{AreNumbered, level_number}
-use Rattle.mq_topic.specs.NodeView.{is_own, mapped_child, own_child}
+use Rattle.mq_topic.specs.NodeView.{mapped_child, own_child}
+use Rattle.mq_topic.specs.Inside.NodeView.{is_own}
 use Rattle.mq_topic.specs.declared.level_map.Child.{Child}
 use Rattle.mq_topic.specs.declared.level_map.LevelMap.{LevelMap}
 use Rattle.mq_topic.specs.declared.trie_nodes.NodeId.{NodeId}

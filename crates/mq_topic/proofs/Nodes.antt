@@ -10,7 +10,8 @@ use Rattle.std.proofs.lemmas.Cmp.{nat_cmp_total, tied_itself}
 use Rattle.slab.specs.Slab.{Slab, Updates, get, with_value}
 use Rattle.slab.proofs.SlabLemmas.{Updates-with_value}
 use Rattle.mq_topic.specs.NodeView.{child_in, client_in}
-use Rattle.mq_topic.specs.Tree.{ChildIs, ClientIs, Cut, Grown, IsBare, IsPlace, IsUsed, SameTree}
+use Rattle.mq_topic.specs.Tree.{Cut, IsPlace}
+use Rattle.mq_topic.specs.Inside.Tree.{ChildIs, ClientIs, Grown, IsBare, IsUsed, SameTree}
 use Rattle.mq_topic.specs.TrieView.{child_at, child_of, client_at, client_of, link_in, node_of, tree}
 use Rattle.mq_topic.specs.declared.qos.Qos.{Qos}
 use Rattle.mq_topic.specs.declared.trie_nodes.Node.{Node}

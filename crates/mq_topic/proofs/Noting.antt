@@ -5,7 +5,8 @@ use Rattle.std.specs.FinMap.{put, is_sorted}
 use Rattle.std.specs.Ordering.{nat_cmp, ordering_reverse}
 use Rattle.std.specs.declared.cmp.Ordering.TheVariants.{Less, Equal, Greater}
 use Rattle.mq_topic.specs.Qos.{greater}
-use Rattle.mq_topic.specs.Rows.{UpTo, greater_of, qos_of}
+use Rattle.mq_topic.specs.Rows.{greater_of, qos_of}
+use Rattle.mq_topic.specs.Inside.Rows.{UpTo}
 use Rattle.mq_topic.specs.declared.qos.Qos.{Qos}
 use Rattle.mq_topic.proofs.Placing.{above_less, first, second}
 

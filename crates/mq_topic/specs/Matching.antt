@@ -1,6 +1,5 @@
 -- Matching as a function (4.7).
-use Rattle.std.specs.Prelude.{ℕ, Bool, true, false, not, ◌&&◌, ◌||◌, List, [], ◌∷◌, Option, Some, None, ◌==◌}
-use Rattle.std.specs.Borrow.{Bor}
+use Rattle.std.specs.Prelude.{ℕ, Bool, true, false, not, ◌&&◌, ◌||◌, List, [], ◌∷◌, ◌==◌}
 use Rattle.std.specs.Str.{bytes_eq}
 use Rattle.mq_topic.specs.Topic.{is_wildcard, levels}
 
@@ -44,8 +43,3 @@ is_hidden filter name = begins is_wildcard filter && begins is_dollar name
 -- The filter matches the name.
 abbrev pub is_match : List ℕ → List ℕ → Bool
 is_match filter name = fits (levels filter) (levels name) && not (is_hidden filter name)
-
--- The remaining levels of a text.
-abbrev pub levels_left : Option (Bor (List ℕ)) → List (List ℕ)
-levels_left None = []
-levels_left (Some text) = levels text.now

@@ -1,5 +1,5 @@
 -- The queries of a node of a trie: its children and its clients.
-use Rattle.std.specs.Prelude.{◌≡◌, ◌==◌, ℕ, Bool, true, List, Option, Some, None, if◌then◌else◌}
+use Rattle.std.specs.Prelude.{◌==◌, ℕ, List, Option, Some, None, if◌then◌else◌}
 use Rattle.std.specs.Arc.{arc_str_bytes}
 use Rattle.std.specs.Cmp.Lexicographic.{slice_cmp}
 use Rattle.std.specs.Map.{lookup}
@@ -15,10 +15,6 @@ use Rattle.mq_topic.specs.declared.level_map.Child.{Child}
 use Rattle.mq_topic.specs.declared.level_map.LevelMap.{LevelMap}
 use Rattle.mq_topic.specs.declared.qos.Qos.{Qos}
 use Rattle.mq_topic.specs.declared.trie_nodes.NodeId.{NodeId}
-
--- The node's own child is the one at this level, or does not exist.
-abbrev pub is_own : List ℕ → Option Child → Bool
-is_own level first = option_map_or (λ (child : Child). bytes_eq level (arc_str_bytes child.level)) first true
 
 -- The node's own child, if it is the one at this level.
 abbrev pub own_child : List ℕ → Option Child → Option NodeId
@@ -45,18 +41,8 @@ child_beside level children = option_map_or (λ boxed. mapped_child level boxed.
 abbrev pub child_in : List ℕ → Children → Option NodeId
 child_in level children = option_or (own_child level children.first) (child_beside level children)
 
--- The child at one level changes; the others stay.
-pub record ChildIn (level : List ℕ) (child : Option NodeId) (old new : Children) : Type 0 where
-  pub same : child_in level new ≡ child
-  pub others : (other_level : List ℕ) → (other_level ≡ level → ⊥) → child_in other_level new ≡ child_in other_level old
-
 -- The QoS of a client.
 abbrev pub client_in : ℕ → Clients → Option Qos
 client_in client Nobody = None
 client_in client (One other qos) = if is_eq (nat_cmp client other) then Some qos else None
 client_in client (Several map) = lookup (λ other. is_eq (nat_cmp client other)) map.entries
-
--- The QoS of one client changes; the others stay.
-pub record ClientIn (client : ℕ) (qos : Option Qos) (old new : Clients) : Type 0 where
-  pub same : client_in client new ≡ qos
-  pub others : (other : ℕ) → (other ≡ client → ⊥) → client_in other new ≡ client_in other old

@@ -1,6 +1,6 @@
 -- The rows of a store of subscriptions: a map from client and filter to QoS, as the ordered list of
 -- its rows.
-use Rattle.std.specs.Prelude.{◌≡◌, ℕ, ◌≤◌, Bool, not, ◌&&◌, List, [], ◌∷◌, map, filter, Option, Some, None, ◌==◌, IsTrue, if◌then◌else◌}
+use Rattle.std.specs.Prelude.{◌≡◌, ℕ, Bool, not, ◌&&◌, List, [], ◌∷◌, map, filter, Option, Some, None, ◌==◌, IsTrue, if◌then◌else◌}
 use Rattle.std.specs.Cmp.Lexicographic.{slice_cmp}
 use Rattle.std.specs.FinMap.{find, is_sorted, put}
 use Rattle.std.specs.Ordering.{eq_by_cmp, nat_cmp, on, then_cmp}
@@ -75,8 +75,3 @@ matched name [] = []
 matched name (row ∷ rows) =
     let found = matched name rows in
     if is_match row.0.1 name then put nat_cmp row.0.0 (greater_of row.1 (qos_of row.0.0 found)) found else found
-
--- No entry belongs to a client above this one.
-abbrev pub UpTo : ℕ → List (ℕ × Qos) → Type 0
-UpTo client [] = Unit {0}
-UpTo client (entry ∷ found) = (entry.0 ≤ client) × UpTo client found

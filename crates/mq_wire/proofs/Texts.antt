@@ -9,7 +9,8 @@ use Rattle.std.proofs.lemmas.Str.{IsUtf8-from_is_utf8, IsUtf8-from_ascii, is_utf
 use Rattle.mq_wire.specs.declared.text.FieldFault.{FieldFault}
 use Rattle.mq_wire.specs.declared.text.FieldFault.TheVariants.{Past, NotUtf8, Nul}
 use Rattle.mq_wire.specs.Number.{number, number_in, NumberLaws}
-use Rattle.mq_wire.specs.Text.{IsText, has_nul, is_special, counted}
+use Rattle.mq_wire.specs.Text.{IsText, has_nul, counted}
+use Rattle.mq_wire.specs.Inside.Text.{is_special}
 use Rattle.mq_wire.specs.Bytes.{AreBytes}
 use Rattle.mq_wire.specs.TextReading.{read_text, checked_text, with_place, text_end, text_bytes, TextLaws}
 

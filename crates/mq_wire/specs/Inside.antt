@@ -1,2 +1,3 @@
 -- Definitions that only the proofs of this crate need: no public contract cites them.
+pub mod Text
 pub mod Value

@@ -15,8 +15,7 @@ IsShortest (first ∷ []) = Unit {0}
 IsShortest (first ∷ second ∷ []) = 0 < second
 IsShortest (first ∷ second ∷ third ∷ rest) = IsShortest (second ∷ third ∷ rest)
 
--- `bytes` encodes the remaining length `number`: at most four digits, and no more than `number`
--- needs.
+-- `bytes` is the shortest encoding of the remaining length `number`, and has one to four digits.
 abbrev pub Length : ℕ → List ℕ → Type 0
 Length number bytes = Digits number bytes × (length bytes ≤ 4) × IsShortest bytes
 

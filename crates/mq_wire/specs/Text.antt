@@ -1,5 +1,5 @@
 -- UTF-8 encoded strings (1.5.3).
-use Rattle.std.specs.Prelude.{◌≡◌, ℕ, ◌<◌, Bool, true, false, List, ◌++◌, length, ◌==◌, ◌||◌, nat_lt}
+use Rattle.std.specs.Prelude.{◌≡◌, ℕ, ◌<◌, Bool, true, false, List, ◌++◌, length, ◌==◌}
 use Rattle.std.specs.List.{list_any}
 use Rattle.std.specs.Str.{is_utf8}
 use Rattle.mq_wire.specs.Number.{number}
@@ -7,10 +7,6 @@ use Rattle.mq_wire.specs.Number.{number}
 -- `text` contains U+0000, the only character whose UTF-8 encoding has a byte 0.
 abbrev pub has_nul : List ℕ → Bool
 has_nul text = list_any (λ byte. byte == 0) text
-
--- `byte` is U+0000 or part of a character beyond ASCII.
-abbrev pub is_special : ℕ → Bool
-is_special byte = (byte == 0) || nat_lt 127 byte
 
 -- `text` is UTF-8 without surrogates, has at most 65,535 bytes and no U+0000.
 pub record IsText (text : List ℕ) : Type 0 where

@@ -11,7 +11,7 @@ use Rattle.mq_topic.specs.declared.qos.Qos.TheVariants.{Q0, Q1, Q2}
 use Rattle.mq_packet.specs.declared.message.Message.{Message}
 use Rattle.mq_decode.specs.Limits.{Bounds}
 use Rattle.mq_wire.specs.Text.{IsText}
-use Rattle.mq_flow.specs.declared.entry.Entry.{Entry}
+use Rattle.mq_flow.specs.declared.entry.SenderEntry.{SenderEntry}
 use Rattle.mq_flow.specs.declared.load.LoadError.{LoadError}
 use Rattle.mq_flow.specs.declared.load.LoadError.TheVariants as loading
 use Rattle.mq_flow.specs.declared.saved.Saved.{Saved}
@@ -49,17 +49,17 @@ within limit most m le has h =
     let s = saved_size limit m.qos (length m.topic) (length m.payload) has h in
     omega arith
 
-pub are_within : (limit most : ℕ) (es : List Entry) → limit ≤ most → Each (IsEntry (fits limit)) es → AreWithin most es
+pub are_within : (limit most : ℕ) (es : List SenderEntry) → limit ≤ most → Each (IsEntry (fits limit)) es → AreWithin most es
 are_within limit most [] le h = tt
 are_within limit most (e ∷ es) le h = (within limit most e.message le h.0.1 (leb-true (publish_size e.message) limit h.0.0), are_within limit most es le h.1)
 
-pub fit_within : (limit : ℕ) (es : List Entry) → Each (IsEntry (fits limit)) es → All (λ (e : Entry). publish_size e.message ≤ limit) es
-fit_within limit [] h = All-nil (λ (e : Entry). publish_size e.message ≤ limit)
+pub fit_within : (limit : ℕ) (es : List SenderEntry) → Each (IsEntry (fits limit)) es → All (λ (e : SenderEntry). publish_size e.message ≤ limit) es
+fit_within limit [] h = All-nil (λ (e : SenderEntry). publish_size e.message ≤ limit)
 fit_within limit (e ∷ es) h =
-    All-cons (λ (e : Entry). publish_size e.message ≤ limit) e es (leb-true (publish_size e.message) limit h.0.0) (fit_within limit es h.1)
+    All-cons (λ (e : SenderEntry). publish_size e.message ≤ limit) e es (leb-true (publish_size e.message) limit h.0.0) (fit_within limit es h.1)
 
 -- the messages that a client holds when its connection is over
-held_over : (P : List Entry → Type 0) (e : End) → P [] → P e.book.entries → P (over e).book.entries
+held_over : (P : List SenderEntry → Type 0) (e : End) → P [] → P e.book.entries → P (over e).book.entries
 held_over P e none all = cond_both e.clean blank_book (no_claims e.book) (λ (b : SenderBook). P b.entries) (λ t. none) (λ f. all)
 
 pub can_be_saved : (limit : Bounds) (capacity : ℕ) (w : Wired) (m : Machine) → Stands limit capacity w m → limit.most ≤ 268435455
@@ -69,10 +69,10 @@ can_be_saved limit capacity w m s le = held_over (AreWithin 268435455) w.client.
     (are_within limit.most 268435455 m.client.end.book.entries le (reached_entries limit.most capacity m s.reached)))
 
 pub can_be_loaded : (limit : Bounds) (capacity : ℕ) (w : Wired) (m : Machine) → Stands limit capacity w m
-    → All (λ (e : Entry). publish_size e.message ≤ limit.most) (over w.client.state.end).book.entries
+    → All (λ (e : SenderEntry). publish_size e.message ≤ limit.most) (over w.client.state.end).book.entries
 can_be_loaded limit capacity w m s =
-    let P : List Entry → Type 0 = All (λ (e : Entry). publish_size e.message ≤ limit.most) in
-    held_over P w.client.state.end (All-nil (λ (e : Entry). publish_size e.message ≤ limit.most))
+    let P : List SenderEntry → Type 0 = All (λ (e : SenderEntry). publish_size e.message ≤ limit.most) in
+    held_over P w.client.state.end (All-nil (λ (e : SenderEntry). publish_size e.message ≤ limit.most))
     (subst (λ (e : End). P e.book.entries) (sym s.carries.client.end)
     (fit_within limit.most m.client.end.book.entries (reached_entries limit.most capacity m s.reached)))
 

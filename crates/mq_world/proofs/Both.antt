@@ -4,7 +4,7 @@ use Rattle.mq_topic.specs.declared.qos.Qos.TheVariants.{Q1, Q2}
 use Rattle.mq_packet.specs.declared.message.Message.{Message}
 use Rattle.mq_packet.specs.declared.packet.Packet.{Packet}
 use Rattle.mq_packet.specs.declared.packet.Packet.TheVariants as packets
-use Rattle.mq_flow.specs.declared.entry.Entry.{Entry}
+use Rattle.mq_flow.specs.declared.entry.SenderEntry.{SenderEntry}
 use Rattle.mq_flow.specs.declared.claim.Claimed.{Claimed}
 use Rattle.mq_flow.specs.Sender.{SenderBook, times, held, resent, all_sent}
 use Rattle.mq_flow.specs.Receiver.{ReceiverBook}
@@ -41,10 +41,10 @@ Ways x book y stored answering flying accepted handed places_freed =
 abbrev pub WayOf : Half → Half → Type 0
 WayOf x y = Ways x.end.state x.end.book y.end.state y.end.received (answers x.coming) (flight y.coming) x.accepted y.handed x.freed
 
-abbrev pub IsSent : Entry → Type 0
+abbrev pub IsSent : SenderEntry → Type 0
 IsSent e = e.sent ≡ true
 
-abbrev pub IsHeld : Entry → Type 0
+abbrev pub IsHeld : SenderEntry → Type 0
 IsHeld e = has_identifier e.message.qos ≡ true
 
 -- The sender's book alone: it is sound; if the side is connected, every message was sent; no
@@ -171,7 +171,7 @@ up_keeps capacity h y p rest before alive none_answering none_flying plain rest_
     (subst (λ (f : Flight). Ways y.end.state y.end.book Connected h.end.received (answers y.coming) f y.accepted h.handed y.freed) rest_flight
     (second.receiver_up b.to_x.0, first.receiver_up b.to_x.1, b.to_x.2)) (
       books.sends capacity book b.own_x.0,
-      each_map IsSent (λ (e : Entry). record { id = e.id; message = e.message; sent = true }) book.entries (λ e. refl),
+      each_map IsSent (λ (e : SenderEntry). record { id = e.id; message = e.message; sent = true }) book.entries (λ e. refl),
       held_still book.entries b.own_x.2,
     )
     refl
@@ -179,7 +179,7 @@ up_keeps capacity h y p rest before alive none_answering none_flying plain rest_
     (each_append IsPlain before (resent book) plain (plain_resent book))
     b
   where
-    held_still : (es : List Entry) → Each IsHeld es → Each IsHeld (map (λ (e : Entry). record { id = e.id; message = e.message; sent = true }) es)
+    held_still : (es : List SenderEntry) → Each IsHeld es → Each IsHeld (map (λ (e : SenderEntry). record { id = e.id; message = e.message; sent = true }) es)
     held_still [] k = tt
     held_still (e ∷ es) k = (k.0, held_still es k.1)
 

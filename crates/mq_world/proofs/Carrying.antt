@@ -13,13 +13,13 @@ use Rattle.mq_packet.specs.declared.connack.ConnAck.TheVariants as connacks
 use Rattle.mq_packet.specs.declared.connack.RefusalCode.TheVariants.{IdentifierRejected}
 use Rattle.mq_packet.specs.declared.packet.Packet.{Packet}
 use Rattle.mq_packet.specs.declared.packet.Packet.TheVariants as packets
-use Rattle.mq_flow.specs.declared.entry.Entry.{Entry}
+use Rattle.mq_flow.specs.declared.entry.SenderEntry.{SenderEntry}
 use Rattle.mq_flow.specs.Window.{fits_window}
 use Rattle.mq_flow.specs.Sender.{SenderBook, blank_book, no_claims, resent, publish_packet, is_awaited, without_entry}
 use Rattle.mq_end.specs.declared.state.State.{State}
 use Rattle.mq_end.specs.declared.state.State.TheVariants.{Disconnected, Connecting, Connected}
 use Rattle.mq_end.specs.declared.reason.CloseReason.TheVariants as reasons
-use Rattle.mq_end.specs.End.{End, Reply, drops, is_up, over, closes, comes_up, renewed}
+use Rattle.mq_end.specs.End.{End, Reply, drops, is_up, over, closes, becomes_connected, renewed}
 use Rattle.mq_end.specs.Both.{stores, publish_gets, flow_gets, has_identifier, publishes_at}
 use Rattle.mq_end.specs.Client.{leaves, connack_gets, client_open_gets, client_up_gets, client_gets_in}
 use Rattle.mq_end.specs.Server.{connect_gets, refuses, server_open_gets, server_up_gets, server_gets_in}
@@ -83,7 +83,7 @@ module _ (test : Message → Bool) where
 
   -- ---- the re-sending
 
-  entry_carried : (e : Entry) → IsEntry test e → IsCarried test (publish_packet e.id e.sent e.message)
+  entry_carried : (e : SenderEntry) → IsEntry test e → IsCarried test (publish_packet e.id e.sent e.message)
   entry_carried e h = (h.0, fits e.message.qos h.1, h.2)
     where
       fits : (q : Qos) → has_identifier q ≡ true → fits_delivery q (Some (record { id = e.id; dup = e.sent })) ≡ true
@@ -93,13 +93,13 @@ module _ (test : Message → Bool) where
 
   resent_well : (b : SenderBook) → Holds b → Each (IsCarried test) (resent b)
   resent_well b h =
-      each_append (IsCarried test) (map packets.PubRel b.released) (map (λ (e : Entry). publish_packet e.id e.sent e.message) b.entries)
+      each_append (IsCarried test) (map packets.PubRel b.released) (map (λ (e : SenderEntry). publish_packet e.id e.sent e.message) b.entries)
       (each_mapped IsIdentifier (IsCarried test) packets.PubRel b.released (λ i k. k) h.1)
-      (each_mapped (IsEntry test) (IsCarried test) (λ (e : Entry). publish_packet e.id e.sent e.message) b.entries entry_carried h.0)
+      (each_mapped (IsEntry test) (IsCarried test) (λ (e : SenderEntry). publish_packet e.id e.sent e.message) b.entries entry_carried h.0)
 
-  comes_up_well : (before : List Packet) (present : Bool) (e : End) → Each (IsCarried test) before → Holds e.book → Leaves_well (comes_up before present e)
+  comes_up_well : (before : List Packet) (present : Bool) (e : End) → Each (IsCarried test) before → Holds e.book → Leaves_well (becomes_connected before present e)
   comes_up_well before present e c h = (
-    (each_mapped (IsEntry test) (IsEntry test) (λ (e : Entry). record { id = e.id; message = e.message; sent = true }) e.book.entries (λ e k. k) h.0, h.1),
+    (each_mapped (IsEntry test) (IsEntry test) (λ (e : SenderEntry). record { id = e.id; message = e.message; sent = true }) e.book.entries (λ e k. k) h.0, h.1),
     each_append (IsCarried test) before (resent e.book) c (resent_well e.book h),
   )
 
@@ -109,7 +109,7 @@ module _ (test : Message → Bool) where
   connack_well (connacks.Refused code) e h = (over_well e h, tt)
   connack_well (connacks.Accepted present) e h =
       cond_both (e.clean && present) (closes reasons.Unexpected e) _ Leaves_well (λ t. (over_well e h, tt))
-      (λ f. cond_both (not e.clean && (e.known && not present)) (closes reasons.SessionLost e) (comes_up [] present e) Leaves_well
+      (λ f. cond_both (not e.clean && (e.known && not present)) (closes reasons.SessionLost e) (becomes_connected [] present e) Leaves_well
       (λ t. (over_well e h, tt)) (λ f. comes_up_well [] present e tt h))
 
   client_open_well : (p : Packet) (e : End) → Holds e.book → Leaves_well (client_open_gets p e)

@@ -17,7 +17,7 @@ use Rattle.mq_world.specs.declared.event.Event.{Event}
 use Rattle.mq_world.specs.declared.event.Event.TheVariants as events
 use Rattle.mq_world.specs.declared.answer.Answer.{Answer}
 use Rattle.mq_world.specs.declared.answer.Answer.TheVariants as answers
-use Rattle.mq_world.specs.declared.answer.Delivery.{Delivery}
+use Rattle.mq_world.specs.declared.answer.DeliveredBytes.{DeliveredBytes}
 use Rattle.mq_world.specs.declared.answer.Settling.{Settling}
 use Rattle.mq_world.specs.Machine.{Machine}
 use Rattle.mq_world.specs.Carries.{Wired, IsSpanned, HaveWindow}
@@ -60,17 +60,17 @@ near_spans capacity Server w h = h.1
 -- ---- deliveries
 
 -- the end did not close because of its window
-abbrev pub IsFitting : Delivery → Type 0
+abbrev pub IsFitting : DeliveredBytes → Type 0
 IsFitting d = d.progress.closed ≢ Some reasons.Window
 
-fits_delivered : (limit : Bounds) (capacity : ℕ) (side : Side) (w v : Wired) (m : Machine) (count : ℕ) (d : Delivery) → Stands limit capacity w m
+fits_delivered : (limit : Bounds) (capacity : ℕ) (side : Side) (w v : Wired) (m : Machine) (count : ℕ) (d : DeliveredBytes) → Stands limit capacity w m
     → IsDelivered limit capacity side count d w v → IsSpanned capacity w → IsFitting d
 fits_delivered limit capacity side w v m count d s h spans = live_or_not (is_live (near side w).state.end.state) (IsFitting d)
     (λ on. (h.arrive on m s).fits (subst (λ (e : End). Spans e.window capacity) (side_near limit capacity side w m s.carries).end
     (near_spans capacity side w spans)))
     (λ off. not_window d.progress.closed (subst IsOther (sym (h.ignores off).closed) tt))
 
-fits_turned : OverBytes → (limit : Bounds) (capacity : ℕ) (sides : List Side) (ds : List Delivery) (u v : Wired) (m : Machine)
+fits_turned : OverBytes → (limit : Bounds) (capacity : ℕ) (sides : List Side) (ds : List DeliveredBytes) (u v : Wired) (m : Machine)
     → Stands limit capacity u m → InTurn limit capacity sides ds u v → IsSpanned capacity u → All IsFitting ds
 fits_turned law limit capacity [] [] u v m s h spans = All-nil IsFitting
 fits_turned law limit capacity (side ∷ sides) (d ∷ ds) u v m s h spans =

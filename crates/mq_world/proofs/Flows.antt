@@ -8,7 +8,7 @@ use Rattle.mq_packet.specs.declared.message.Message.{Message}
 use Rattle.mq_packet.specs.declared.publish.Delivery.{Delivery}
 use Rattle.mq_packet.specs.declared.packet.Packet.{Packet}
 use Rattle.mq_packet.specs.declared.packet.Packet.TheVariants as packets
-use Rattle.mq_flow.specs.declared.entry.Entry.{Entry}
+use Rattle.mq_flow.specs.declared.entry.SenderEntry.{SenderEntry}
 use Rattle.mq_flow.specs.Sender.{SenderBook, times, held, is_awaited, without, without_entry}
 use Rattle.mq_flow.specs.Window.{fits_window}
 use Rattle.mq_flow.specs.Laws.{IsSound}
@@ -147,7 +147,7 @@ puback_keeps capacity h y i rest b =
     elim (first.takes_puback i (once_first capacity h.end.book b.own_x.0) b.to_y.1) [
       | first.Oldest a later split same now ↦
           let book : SenderBook = h.end.book in
-          let es : List Entry = book.entries in
+          let es : List SenderEntry = book.entries in
           let waits : is_awaited Q1 i es ≡ true = subst (λ (k : ℕ). is_awaited Q1 k es ≡ true) same (first_awaited Q1 es a later b.own_x.1 split) in
           let counted : times i (ids (held Q1 es)) ≡ times i (i ∷ ids later) =
           ap (λ (q : List (ℕ × Message)). times i (ids q)) split ∙ ap (λ (k : ℕ). times i (k ∷ ids later)) same in
@@ -198,7 +198,7 @@ pubrec_keeps capacity h y i rest b =
     elim (second.takes_pubrec i b.to_y.0) [
       | second.First a later split same now ↦
           let book : SenderBook = h.end.book in
-          let es : List Entry = book.entries in
+          let es : List SenderEntry = book.entries in
           let waits : is_awaited Q2 i es ≡ true = subst (λ (k : ℕ). is_awaited Q2 k es ≡ true) same (first_awaited Q2 es a later b.own_x.1 split) in
           let counted : times i (ids (held Q2 es)) ≡ times i (i ∷ ids later) =
           ap (λ (q : List (ℕ × Message)). times i (ids q)) split ∙ ap (λ (k : ℕ). times i (k ∷ ids later)) same in

@@ -8,7 +8,7 @@ use Rattle.mq_topic.specs.declared.qos.Qos.{Qos}
 use Rattle.mq_topic.specs.declared.qos.Qos.TheVariants.{Q0, Q1, Q2}
 use Rattle.mq_packet.specs.declared.message.Message.{Message}
 pub use Rattle.mq_world.specs.Orders.{Each}
-use Rattle.mq_flow.specs.declared.entry.Entry.{Entry}
+use Rattle.mq_flow.specs.declared.entry.SenderEntry.{SenderEntry}
 use Rattle.mq_flow.specs.Sender.{times, without_entry, is_awaited, same_qos, held}
 use Rattle.mq_flow.proofs.Counting.{times_append, eqb_self, times_same, times_other, map_filter}
 
@@ -56,19 +56,19 @@ pair_first i p ps e z =
 
 -- ---- Stored messages of one QoS
 
-pub held_append : (q : Qos) (es fs : List Entry) → held q (es ++ fs) ≡ held q es ++ held q fs
+pub held_append : (q : Qos) (es fs : List SenderEntry) → held q (es ++ fs) ≡ held q es ++ held q fs
 held_append q es fs =
-    let f : Entry → ℕ × Message = λ e. (e.id, e.message) in
-    let t : Entry → Bool = λ e. same_qos q e.message.qos in
+    let f : SenderEntry → ℕ × Message = λ e. (e.id, e.message) in
+    let t : SenderEntry → Bool = λ e. same_qos q e.message.qos in
     ap (map f) (filter-append t es fs) ∙ map-append f (filter t es) (filter t fs)
 
-pub held_sent : (q : Qos) (es : List Entry) → held q (map (λ e. record { id = e.id; message = e.message; sent = true }) es) ≡ held q es
+pub held_sent : (q : Qos) (es : List SenderEntry) → held q (map (λ e. record { id = e.id; message = e.message; sent = true }) es) ≡ held q es
 held_sent q [] = refl
 held_sent q (e ∷ es) =
-    let f : Entry → ℕ × Message = λ e. (e.id, e.message) in
-    let t : Entry → Bool = λ e. same_qos q e.message.qos in
-    let all : List Entry = map (λ e. record { id = e.id; message = e.message; sent = true }) es in
-    let one : Entry = record { id = e.id; message = e.message; sent = true } in
+    let f : SenderEntry → ℕ × Message = λ e. (e.id, e.message) in
+    let t : SenderEntry → Bool = λ e. same_qos q e.message.qos in
+    let all : List SenderEntry = map (λ e. record { id = e.id; message = e.message; sent = true }) es in
+    let one : SenderEntry = record { id = e.id; message = e.message; sent = true } in
     elim (same_qos q e.message.qos) as (λ b. map f (cond b (one ∷ filter t all) (filter t all)) ≡ map f (cond b (e ∷ filter t es) (filter t es))) [
       | true ↦ ap (λ (ps : List (ℕ × Message)). (e.id, e.message) ∷ ps) (held_sent q es)
       | false ↦ held_sent q es
@@ -86,21 +86,21 @@ filter_swap {A} t s (x ∷ xs) =
     (λ et. rw es h)
     (λ et. h))
 
-pub held_without : (q : Qos) (i : ℕ) (es : List Entry) → held q (without_entry i es) ≡ without_pair i (held q es)
+pub held_without : (q : Qos) (i : ℕ) (es : List SenderEntry) → held q (without_entry i es) ≡ without_pair i (held q es)
 held_without q i es =
-    let f : Entry → ℕ × Message = λ e. (e.id, e.message) in
-    let t : Entry → Bool = λ e. same_qos q e.message.qos in
-    let s : Entry → Bool = λ e. not (eqb e.id i) in
+    let f : SenderEntry → ℕ × Message = λ e. (e.id, e.message) in
+    let t : SenderEntry → Bool = λ e. same_qos q e.message.qos in
+    let s : SenderEntry → Bool = λ e. not (eqb e.id i) in
     ap (map f) (filter_swap t s es) ∙ map_filter f (λ p. not (eqb p.0 i)) (filter t es)
 
 -- an identifier of either quality of service is among all
-pub times_held : (i : ℕ) (es : List Entry) → times i (ids (held Q1 es)) + times i (ids (held Q2 es)) ≤ times i (map (λ e. e.id) es)
+pub times_held : (i : ℕ) (es : List SenderEntry) → times i (ids (held Q1 es)) + times i (ids (held Q2 es)) ≤ times i (map (λ e. e.id) es)
 times_held i [] = omega arith
 times_held i (e ∷ es) =
-    let f : Entry → ℕ × Message = λ e. (e.id, e.message) in
+    let f : SenderEntry → ℕ × Message = λ e. (e.id, e.message) in
     let h = times_held i es in
-    let F1 : List Entry = filter (λ e. same_qos Q1 e.message.qos) es in
-    let F2 : List Entry = filter (λ e. same_qos Q2 e.message.qos) es in
+    let F1 : List SenderEntry = filter (λ e. same_qos Q1 e.message.qos) es in
+    let F2 : List SenderEntry = filter (λ e. same_qos Q2 e.message.qos) es in
     elim e.message.qos as (λ q. times i (ids (map f (cond (same_qos Q1 q) (e ∷ F1) F1))) + times i
     (ids (map f (cond (same_qos Q2 q) (e ∷ F2) F2))) ≤ times i (e.id ∷ map (λ e. e.id) es)) [
       | Q0 ↦ omega arith
@@ -109,15 +109,15 @@ times_held i (e ∷ es) =
     ]
 
 -- The first stored message is pending if all were sent.
-pub first_awaited : (q : Qos) (es : List Entry) (a : ℕ × Message) (later : List (ℕ × Message)) → Each (λ (e : Entry). e.sent ≡ true) es
+pub first_awaited : (q : Qos) (es : List SenderEntry) (a : ℕ × Message) (later : List (ℕ × Message)) → Each (λ (e : SenderEntry). e.sent ≡ true) es
     → held q es ≡ a ∷ later → is_awaited q a.0 es ≡ true
 first_awaited q [] a later s h = absurd (empty_not a later h)
   where
     empty_not : (a : ℕ × Message) (later : List (ℕ × Message)) → [] ≡ a ∷ later → ⊥
     empty_not a later h = cc
 first_awaited q (e ∷ es) a later s h =
-    let f : Entry → ℕ × Message = λ e. (e.id, e.message) in
-    let those : List Entry = filter (λ e. same_qos q e.message.qos) es in
+    let f : SenderEntry → ℕ × Message = λ e. (e.id, e.message) in
+    let those : List SenderEntry = filter (λ e. same_qos q e.message.qos) es in
     at (same_qos q e.message.qos) (λ g. first_awaited q es a later s.1 g) h
   where
     at : (t : Bool) → (held q es ≡ a ∷ later → is_awaited q a.0 es ≡ true)

@@ -18,7 +18,7 @@ use Rattle.mq_end.specs.declared.state.State.{State}
 use Rattle.mq_end.specs.declared.state.State.TheVariants.{Disconnected, Connecting, Connected}
 use Rattle.mq_end.specs.declared.happening.Happening.TheVariants as happens
 use Rattle.mq_end.specs.declared.reason.CloseReason.TheVariants as reasons
-use Rattle.mq_end.specs.End.{End, Reply, is_up, tells, closes, comes_up, renewed}
+use Rattle.mq_end.specs.End.{End, Reply, is_up, reports_event, closes, becomes_connected, renewed}
 use Rattle.mq_end.specs.Both.{stores, publish_gets, flow_gets, publishes_at}
 use Rattle.mq_end.specs.Client.{client_open_gets, client_up_gets, client_gets_in, connects}
 use Rattle.mq_end.specs.Server.{connect_gets, refuses, server_open_gets, server_up_gets, server_gets_in}
@@ -70,10 +70,10 @@ client_open_known p h n = refl
 
 client_up_known : (p : Packet) (h : Half) → (client_up_gets p (upon h Connected []).end).end.known ≡ h.end.known
 client_up_known (packets.SubAck i codes) h =
-    cond_both (awaits_suback i (length codes) h.end.book) (tells (happens.SubAck i codes) (record (upon h Connected []).end { book = release i h.end.book }))
+    cond_both (awaits_suback i (length codes) h.end.book) (reports_event (happens.SubAck i codes) (record (upon h Connected []).end { book = release i h.end.book }))
     (closes reasons.Unexpected (upon h Connected []).end) (λ r. r.end.known ≡ h.end.known) (λ t. refl) (λ f. refl)
 client_up_known (packets.UnsubAck i) h =
-    cond_both (awaits_unsuback i h.end.book) (tells (happens.UnsubAck i) (record (upon h Connected []).end { book = release i h.end.book }))
+    cond_both (awaits_unsuback i h.end.book) (reports_event (happens.UnsubAck i) (record (upon h Connected []).end { book = release i h.end.book }))
     (closes reasons.Unexpected (upon h Connected []).end) (λ r. r.end.known ≡ h.end.known) (λ t. refl) (λ f. refl)
 client_up_known packets.PingResp h = refl
 client_up_known p h = flow_known p h Connected
@@ -137,7 +137,7 @@ Tells h r = r.end.known ≡ false → (h.end.known ≡ false) × Each IsNoConnac
 connect_tells : (c : Connect) (h : Half) → Tells h (connect_gets c (upon h Connecting []).end)
 connect_tells c h =
     cond_both (not c.clean_session && eqb (length c.client_id) 0) (refuses IdentifierRejected (upon h Connecting []).end)
-    (comes_up (packets.ConnAck (connacks.Accepted (not c.clean_session && h.end.known)) ∷ []) (not c.clean_session && h.end.known)
+    (becomes_connected (packets.ConnAck (connacks.Accepted (not c.clean_session && h.end.known)) ∷ []) (not c.clean_session && h.end.known)
     (record (renewed c.clean_session (upon h Connecting []).end) { keep_alive = c.keep_alive }))
     (Tells h) (λ t k. (k, (tt, tt))) (λ f k. absurd (true_not k))
   where

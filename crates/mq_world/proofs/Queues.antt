@@ -8,7 +8,7 @@ use Rattle.mq_packet.specs.declared.message.Message.{Message}
 use Rattle.mq_packet.specs.declared.publish.Delivery.{Delivery}
 use Rattle.mq_packet.specs.declared.packet.Packet.{Packet}
 use Rattle.mq_packet.specs.declared.packet.Packet.TheVariants as packets
-use Rattle.mq_flow.specs.declared.entry.Entry.{Entry}
+use Rattle.mq_flow.specs.declared.entry.SenderEntry.{SenderEntry}
 use Rattle.mq_flow.specs.Sender.{SenderBook, held, same_qos, resent, publish_packet}
 use Rattle.mq_end.specs.declared.state.State.{State}
 use Rattle.mq_end.specs.declared.state.State.TheVariants.{Disconnected, Connecting, Connected}
@@ -239,17 +239,17 @@ released_of : (is : List ℕ) → filter_map as_pubrel (map packets.PubRel is) �
 released_of [] = refl
 released_of (i ∷ is) = ap (λ (q : List ℕ). i ∷ q) (released_of is)
 
-none_of_entries : {A : Type 0} (f : Packet → Option A) → ((e : Entry) → f (publish_packet e.id e.sent e.message) ≡ None) → (es : List Entry)
-    → filter_map f (map (λ (e : Entry). publish_packet e.id e.sent e.message) es) ≡ []
+none_of_entries : {A : Type 0} (f : Packet → Option A) → ((e : SenderEntry) → f (publish_packet e.id e.sent e.message) ≡ None) → (es : List SenderEntry)
+    → filter_map f (map (λ (e : SenderEntry). publish_packet e.id e.sent e.message) es) ≡ []
 none_of_entries f h [] = refl
 none_of_entries {A} f h (e ∷ es) =
-    ap (λ (o : Option A). cons_option o (filter_map f (map (λ (e : Entry). publish_packet e.id e.sent e.message) es))) (h e) ∙ none_of_entries f h es
+    ap (λ (o : Option A). cons_option o (filter_map f (map (λ (e : SenderEntry). publish_packet e.id e.sent e.message) es))) (h e) ∙ none_of_entries f h es
 
-second_of_entries : (es : List Entry) → filter_map as_second (map (λ (e : Entry). publish_packet e.id e.sent e.message) es) ≡ held Q2 es
+second_of_entries : (es : List SenderEntry) → filter_map as_second (map (λ (e : SenderEntry). publish_packet e.id e.sent e.message) es) ≡ held Q2 es
 second_of_entries [] = refl
 second_of_entries (e ∷ es) =
-    let rest : List (ℕ × Message) = filter_map as_second (map (λ (e : Entry). publish_packet e.id e.sent e.message) es) in
-    let F : List Entry = filter (λ e. same_qos Q2 e.message.qos) es in
+    let rest : List (ℕ × Message) = filter_map as_second (map (λ (e : SenderEntry). publish_packet e.id e.sent e.message) es) in
+    let F : List SenderEntry = filter (λ e. same_qos Q2 e.message.qos) es in
     let h = second_of_entries es in
     elim e.message.qos as (λ q. cons_option (second_of q (Some (record { id = e.id; dup = e.sent })) e.message) rest ≡ map (λ e. (e.id, e.message))
     (cond (same_qos Q2 q) (e ∷ F) F)) [
@@ -258,11 +258,11 @@ second_of_entries (e ∷ es) =
       | Q2 ↦ ap (λ (q : List (ℕ × Message)). (e.id, e.message) ∷ q) h
     ]
 
-first_of_entries : (es : List Entry) → filter_map as_first (map (λ (e : Entry). publish_packet e.id e.sent e.message) es) ≡ held Q1 es
+first_of_entries : (es : List SenderEntry) → filter_map as_first (map (λ (e : SenderEntry). publish_packet e.id e.sent e.message) es) ≡ held Q1 es
 first_of_entries [] = refl
 first_of_entries (e ∷ es) =
-    let rest : List (ℕ × Message) = filter_map as_first (map (λ (e : Entry). publish_packet e.id e.sent e.message) es) in
-    let F : List Entry = filter (λ e. same_qos Q1 e.message.qos) es in
+    let rest : List (ℕ × Message) = filter_map as_first (map (λ (e : SenderEntry). publish_packet e.id e.sent e.message) es) in
+    let F : List SenderEntry = filter (λ e. same_qos Q1 e.message.qos) es in
     let h = first_of_entries es in
     elim e.message.qos as (λ q. cons_option (first_of q (Some (record { id = e.id; dup = e.sent })) e.message) rest ≡ map (λ e. (e.id, e.message))
     (cond (same_qos Q1 q) (e ∷ F) F)) [
@@ -271,7 +271,7 @@ first_of_entries (e ∷ es) =
       | Q2 ↦ h
     ]
 
-no_zeroth : (e : Entry) → as_zeroth (publish_packet e.id e.sent e.message) ≡ None
+no_zeroth : (e : SenderEntry) → as_zeroth (publish_packet e.id e.sent e.message) ≡ None
 no_zeroth e = elim e.message.qos as (λ q. zeroth_of q (Some (record { id = e.id; dup = e.sent })) e.message ≡ None) [
   | Q0 ↦ refl
   | Q1 ↦ refl
@@ -280,12 +280,12 @@ no_zeroth e = elim e.message.qos as (λ q. zeroth_of q (Some (record { id = e.id
 
 resent_of : {A : Type 0} (f : Packet → Option A) (before : List Packet) (b : SenderBook) (xs ys : List A) → filter_map f before ≡ []
     → filter_map f (map packets.PubRel b.released) ≡ xs
-    → filter_map f (map (λ (e : Entry). publish_packet e.id e.sent e.message) b.entries) ≡ ys → filter_map f (before ++ resent b) ≡ xs ++ ys
+    → filter_map f (map (λ (e : SenderEntry). publish_packet e.id e.sent e.message) b.entries) ≡ ys → filter_map f (before ++ resent b) ≡ xs ++ ys
 resent_of {A} f before b xs ys none e g =
     filter_map-append f before (resent b)
     ∙ (ap (λ (q : List A). q ++ filter_map f (resent b)) none
-    ∙ (filter_map-append f (map packets.PubRel b.released) (map (λ (e : Entry). publish_packet e.id e.sent e.message) b.entries)
-    ∙ (ap (λ (q : List A). q ++ filter_map f (map (λ (e : Entry). publish_packet e.id e.sent e.message) b.entries)) e
+    ∙ (filter_map-append f (map packets.PubRel b.released) (map (λ (e : SenderEntry). publish_packet e.id e.sent e.message) b.entries)
+    ∙ (ap (λ (q : List A). q ++ filter_map f (map (λ (e : SenderEntry). publish_packet e.id e.sent e.message) b.entries)) e
     ∙ ap (λ (q : List A). xs ++ q) g)))
 
 pub resent_answers : (before : List Packet) (b : SenderBook) → answers before ≡ no_answers → answers (before ++ resent b) ≡ no_answers

@@ -8,7 +8,7 @@ use Rattle.mq_packet.specs.declared.message.Message.{Message}
 use Rattle.mq_packet.specs.declared.publish.Delivery.{Delivery}
 use Rattle.mq_packet.specs.declared.packet.Packet.{Packet}
 use Rattle.mq_packet.specs.declared.packet.Packet.TheVariants as packets
-use Rattle.mq_flow.specs.declared.entry.Entry.{Entry}
+use Rattle.mq_flow.specs.declared.entry.SenderEntry.{SenderEntry}
 use Rattle.mq_flow.specs.Window.{Spans}
 use Rattle.mq_flow.specs.Sender.{SenderBook, is_awaited, resent, publish_packet}
 use Rattle.mq_end.specs.declared.state.State.{State}
@@ -169,7 +169,7 @@ drained capacity n m side (p ∷ rest) x y old_x old_y le three is d =
 
 -- ---- Retransmissions
 
-held_rank : (e : Entry) → IsHeld e → rank (publish_packet e.id e.sent e.message) < 4
+held_rank : (e : SenderEntry) → IsHeld e → rank (publish_packet e.id e.sent e.message) < 4
 held_rank e h = by_qos e.message.qos h
   where
     by_qos : (q : Qos) → has_identifier q ≡ true → publish_rank q (Some (record { id = e.id; dup = e.sent })) < 4
@@ -179,9 +179,9 @@ held_rank e h = by_qos e.message.qos h
 
 pub resent_below : (b : SenderBook) → Each IsHeld b.entries → Below 4 (resent b)
 resent_below b h =
-    each_append (λ p. rank p < 4) (map packets.PubRel b.released) (map (λ (e : Entry). publish_packet e.id e.sent e.message) b.entries)
+    each_append (λ p. rank p < 4) (map packets.PubRel b.released) (map (λ (e : SenderEntry). publish_packet e.id e.sent e.message) b.entries)
     (each_map (λ p. rank p < 4) packets.PubRel b.released (λ i. omega arith))
-    (each_mapped IsHeld (λ p. rank p < 4) (λ (e : Entry). publish_packet e.id e.sent e.message) b.entries held_rank h)
+    (each_mapped IsHeld (λ p. rank p < 4) (λ (e : SenderEntry). publish_packet e.id e.sent e.message) b.entries held_rank h)
 
 -- ---- Packets that can't be in a queue of low ranks
 

@@ -6,13 +6,13 @@ use Rattle.mq_topic.specs.declared.qos.Qos.{Qos}
 use Rattle.mq_topic.specs.declared.qos.Qos.TheVariants.{Q0, Q1, Q2}
 use Rattle.mq_packet.specs.declared.message.Message.{Message}
 use Rattle.mq_packet.specs.declared.packet.Packet.{Packet}
-use Rattle.mq_flow.specs.declared.entry.Entry.{Entry}
+use Rattle.mq_flow.specs.declared.entry.SenderEntry.{SenderEntry}
 use Rattle.mq_flow.specs.Sender.{held, same_qos, resent}
 use Rattle.mq_flow.specs.Window.{Spans}
 use Rattle.mq_end.specs.declared.state.State.{State}
 use Rattle.mq_end.specs.declared.state.State.TheVariants.{Connected}
 use Rattle.mq_end.specs.declared.reason.CloseReason.TheVariants as reasons
-use Rattle.mq_end.specs.End.{End, closes, comes_up}
+use Rattle.mq_end.specs.End.{End, closes, becomes_connected}
 use Rattle.mq_end.specs.Both.{has_identifier}
 use Rattle.mq_world.specs.declared.side.Side.TheVariants.{Client, Server}
 use Rattle.mq_world.specs.Half.{Half, Accepted, Arrives, put, took}
@@ -142,8 +142,8 @@ connack_in c s h =
     let P : Bool → Type 0 = λ t.
     ◌≡◌ {A = Machine}
     (record {
-      client = (took x (resent s.end.book) (cond t (closes reasons.SessionLost e) (comes_up [] s.end.known e))).half;
-      server = put (took x (resent s.end.book) (cond t (closes reasons.SessionLost e) (comes_up [] s.end.known e))).out (after_connect c s).server;
+      client = (took x (resent s.end.book) (cond t (closes reasons.SessionLost e) (becomes_connected [] s.end.known e))).half;
+      server = put (took x (resent s.end.book) (cond t (closes reasons.SessionLost e) (becomes_connected [] s.end.known e))).out (after_connect c s).server;
     })
     (record { client = up_client c s; server = up_server c s }) in
     subst P (sym h) refl
@@ -210,7 +210,7 @@ nothing_at key x y taken waiting answering flying up_x up_y none_answering none_
     (subst (λ (st : State). Stages key Connected st taken waiting answering flying) up_y
     (subst (λ (st : State). Stages key st y taken waiting answering flying) up_x h))))
 
-no_entries : (es : List Entry) → Each IsHeld es → held Q1 es ≡ [] → held Q2 es ≡ [] → es ≡ []
+no_entries : (es : List SenderEntry) → Each IsHeld es → held Q1 es ≡ [] → held Q2 es ≡ [] → es ≡ []
 no_entries [] k one two = refl
 no_entries (e ∷ es) k one two = absurd (by_qos e.message.qos k.0 one two)
   where

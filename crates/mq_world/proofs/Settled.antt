@@ -8,7 +8,7 @@ use Rattle.mq_end.specs.declared.reason.CloseReason.TheVariants as reasons
 use Rattle.mq_end.specs.End.{is_live}
 use Rattle.mq_world.specs.declared.side.Side.{Side}
 use Rattle.mq_world.specs.declared.answer.Answer.TheVariants as answers
-use Rattle.mq_world.specs.declared.answer.Delivery.{Delivery}
+use Rattle.mq_world.specs.declared.answer.DeliveredBytes.{DeliveredBytes}
 use Rattle.mq_world.specs.declared.answer.Opening.{Opening}
 use Rattle.mq_world.specs.declared.answer.Settling.{Settling}
 use Rattle.mq_world.specs.Machine.{Machine, Opens, after}
@@ -22,7 +22,7 @@ use Rattle.mq_world.proofs.Worlds.{live_or_not, stands_opened}
 -- ---- one delivery after another
 
 -- The end did not close because an allocation failed.
-abbrev pub IsFed : Delivery → Type 0
+abbrev pub IsFed : DeliveredBytes → Type 0
 IsFed d = d.progress.closed ≢ Some reasons.Memory
 
 -- the machine, after all came that was in flight to each of these sides
@@ -31,7 +31,7 @@ turned [] m = m
 turned (side ∷ sides) m = turned sides (delivered side m)
 
 -- If all bytes of a wire arrive at a side with a connection, all packets of the machine's queue do.
-come_heard : SettlesOver → (limit : Bounds) (capacity : ℕ) (side : Side) (w v : Wired) (m : Machine) (d : Delivery) → Stands limit capacity w m
+come_heard : SettlesOver → (limit : Bounds) (capacity : ℕ) (side : Side) (w v : Wired) (m : Machine) (d : DeliveredBytes) → Stands limit capacity w m
     → IsDelivered limit capacity side (length (near side w).wire) d w v → is_live (near side w).state.end.state ≡ true → IsFed d
     → Stands limit capacity v (delivered side m)
 come_heard law limit capacity side w v m d s h on fed =
@@ -47,7 +47,7 @@ come_heard law limit capacity side w v m d s h on fed =
     (law.deliver_all limit capacity side w m x.state d.progress.happenings d.progress.acknowledged d.progress.closed s on receives x.bounds fed)
 
 -- they are lost at a side without one, and no packet is in its queue
-come_lost : SettlesOver → (limit : Bounds) (capacity : ℕ) (side : Side) (w v : Wired) (m : Machine) (d : Delivery) → Stands limit capacity w m
+come_lost : SettlesOver → (limit : Bounds) (capacity : ℕ) (side : Side) (w v : Wired) (m : Machine) (d : DeliveredBytes) → Stands limit capacity w m
     → IsDelivered limit capacity side (length (near side w).wire) d w v → is_live (near side w).state.end.state ≡ false
     → Stands limit capacity v (delivered side m)
 come_lost law limit capacity side w v m d s h off =
@@ -55,13 +55,13 @@ come_lost law limit capacity side w v m d s h off =
     ap (λ (left : List ℕ). facing side (record (near side w) { wire = left }) (far side w)) (drop-length (near side w).wire) in
     subst (λ (u : Wired). Stands limit capacity u (delivered side m)) (sym same) (law.lose_all limit capacity side w m s off)
 
-come_all : SettlesOver → (limit : Bounds) (capacity : ℕ) (side : Side) (w v : Wired) (m : Machine) (d : Delivery) → Stands limit capacity w m
+come_all : SettlesOver → (limit : Bounds) (capacity : ℕ) (side : Side) (w v : Wired) (m : Machine) (d : DeliveredBytes) → Stands limit capacity w m
     → IsDelivered limit capacity side (length (near side w).wire) d w v → IsFed d → Stands limit capacity v (delivered side m)
 come_all law limit capacity side w v m d s h fed = live_or_not (is_live (near side w).state.end.state) (Stands limit capacity v (delivered side m))
     (λ on. come_heard law limit capacity side w v m d s h on fed) (λ off. come_lost law limit capacity side w v m d s h off)
 
 -- all bytes of one wire after another come
-stands_after : SettlesOver → (limit : Bounds) (capacity : ℕ) (sides : List Side) (ds : List Delivery) (w v : Wired) (m : Machine)
+stands_after : SettlesOver → (limit : Bounds) (capacity : ℕ) (sides : List Side) (ds : List DeliveredBytes) (w v : Wired) (m : Machine)
     → Stands limit capacity w m → InTurn limit capacity sides ds w v → All IsFed ds → Stands limit capacity v (turned sides m)
 stands_after law limit capacity [] [] w v m s h fed = subst (λ (u : Wired). Stands limit capacity u m) (sym h) s
 stands_after law limit capacity (side ∷ sides) (d ∷ ds) w v m s h fed =
@@ -71,7 +71,7 @@ stands_after law limit capacity [] (d ∷ ds) w v m s h fed = absurd h
 stands_after law limit capacity (side ∷ sides) [] w v m s h fed = absurd h
 
 -- a chain of deliveries, with the world after the first n of them
-pub turn_split : (limit : Bounds) (capacity n : ℕ) (sides : List Side) (ds : List Delivery) (w v : Wired) → InTurn limit capacity sides ds w v
+pub turn_split : (limit : Bounds) (capacity n : ℕ) (sides : List Side) (ds : List DeliveredBytes) (w v : Wired) → InTurn limit capacity sides ds w v
     → (u : Wired) × InTurn limit capacity (take n sides) (take n ds) w u × InTurn limit capacity (drop n sides) (drop n ds) u v
 turn_split limit capacity zero sides ds w v h = (w, refl, h)
 turn_split limit capacity (suc n) [] [] w v h = (w, refl, h)
@@ -84,13 +84,13 @@ turn_split limit capacity (suc n) (side ∷ sides) [] w v h = absurd h
 -- ---- settling
 
 -- all the exchanges of a loop that went over them
-pub all_turned : (limit : Bounds) (capacity n : ℕ) (ds items : List Delivery) (w between v : Wired) (m : Machine) (o : Opening) → n ≡ 6 → items ≡ ds
+pub all_turned : (limit : Bounds) (capacity n : ℕ) (ds items : List DeliveredBytes) (w between v : Wired) (m : Machine) (o : Opening) → n ≡ 6 → items ≡ ds
     → Stands limit capacity w m → IsOpened limit capacity o w between
     → ((m : Machine) → Stands limit capacity between m → InTurn limit capacity (take n exchanges) ds between v)
     → InTurn limit capacity exchanges items between v
 all_turned limit capacity n ds items w between v m o all same k opened turns =
     let g = stands_opened limit capacity w between m o k opened in
-    subst (λ (z : List Delivery). InTurn limit capacity exchanges z between v) (sym same)
+    subst (λ (z : List DeliveredBytes). InTurn limit capacity exchanges z between v) (sym same)
     (subst (λ (z : ℕ). InTurn limit capacity (take z exchanges) ds between v) all (turns g.0 g.1))
 
 -- the opening that was not refused

@@ -10,7 +10,7 @@ use Rattle.mq_packet.specs.declared.connack.ConnAck.{ConnAck}
 use Rattle.mq_packet.specs.declared.connack.ConnAck.TheVariants as connacks
 use Rattle.mq_packet.specs.declared.packet.Packet.{Packet}
 use Rattle.mq_packet.specs.declared.packet.Packet.TheVariants as packets
-use Rattle.mq_flow.specs.declared.entry.Entry.{Entry}
+use Rattle.mq_flow.specs.declared.entry.SenderEntry.{SenderEntry}
 use Rattle.mq_flow.specs.Sender.{SenderBook, times, held, IsFree, accept, release, without_claim, awaits_suback, awaits_unsuback}
 use Rattle.mq_flow.specs.Laws.{IsSound}
 use Rattle.mq_flow.proofs.Books.{laws as books, times_uses}
@@ -19,7 +19,7 @@ use Rattle.mq_end.specs.declared.state.State.TheVariants.{Disconnected, Connecti
 use Rattle.mq_end.specs.declared.happening.Happening.TheVariants as happens
 use Rattle.mq_end.specs.declared.reason.CloseReason.TheVariants as reasons
 use Rattle.mq_end.specs.declared.refusal.PublishRefusal.TheVariants as refusals
-use Rattle.mq_end.specs.End.{End, is_up, tells, closes, comes_up}
+use Rattle.mq_end.specs.End.{End, is_up, reports_event, closes, becomes_connected}
 use Rattle.mq_end.specs.Both.{has_identifier, publish_refusal}
 use Rattle.mq_end.specs.Client.{connack_gets, client_open_gets, client_up_gets, client_gets_in, connects}
 use Rattle.mq_end.specs.Server.{connect_gets, server_open_gets, server_up_gets, server_gets_in}
@@ -48,7 +48,7 @@ connack_keeps : (capacity : ℕ) (h y : Half) (a : ConnAck) (rest : List Packet)
 connack_keeps capacity h y (connacks.Refused code) rest b =
     close_keeps capacity h y Connecting (packets.ConnAck (connacks.Refused code) ∷ rest) rest [] None refl refl tt b
 connack_keeps capacity h y (connacks.Accepted present) rest b =
-    cond_both (h.end.known && not present) (closes reasons.SessionLost (upon h Connecting rest).end) (comes_up [] present (upon h Connecting rest).end)
+    cond_both (h.end.known && not present) (closes reasons.SessionLost (upon h Connecting rest).end) (becomes_connected [] present (upon h Connecting rest).end)
     (Keeps capacity (upon h Connecting (packets.ConnAck (connacks.Accepted present) ∷ rest)) rest y)
     (λ t. close_keeps capacity h y Connecting (packets.ConnAck (connacks.Accepted present) ∷ rest) rest [] None refl refl tt b)
     (λ f. up_keeps capacity h y (packets.ConnAck (connacks.Accepted present)) rest [] h.end.keep_alive refl refl tt refl refl b)
@@ -62,13 +62,13 @@ client_up_keeps : (capacity : ℕ) (h y : Half) (p : Packet) (rest : List Packet
     → Keeps capacity (upon h Connected (p ∷ rest)) rest y (client_up_gets p (upon h Connected rest).end)
 client_up_keeps capacity h y (packets.SubAck i codes) rest b =
     cond_both (awaits_suback i (length codes) h.end.book)
-    (tells (happens.SubAck i codes) (record (upon h Connected rest).end { book = release i h.end.book }))
+    (reports_event (happens.SubAck i codes) (record (upon h Connected rest).end { book = release i h.end.book }))
     (closes reasons.Unexpected (upon h Connected rest).end) (Keeps capacity (upon h Connected (packets.SubAck i codes ∷ rest)) rest y)
     (λ t. calm_keeps capacity h y Connected (packets.SubAck i codes) rest [] (without_claim i h.end.book.claimed) refl refl tt refl refl
     (books.releases capacity i h.end.book b.own_x.0) b)
     (λ f. close_keeps capacity h y Connected (packets.SubAck i codes ∷ rest) rest [] None refl refl tt b)
 client_up_keeps capacity h y (packets.UnsubAck i) rest b =
-    cond_both (awaits_unsuback i h.end.book) (tells (happens.UnsubAck i) (record (upon h Connected rest).end { book = release i h.end.book }))
+    cond_both (awaits_unsuback i h.end.book) (reports_event (happens.UnsubAck i) (record (upon h Connected rest).end { book = release i h.end.book }))
     (closes reasons.Unexpected (upon h Connected rest).end) (Keeps capacity (upon h Connected (packets.UnsubAck i ∷ rest)) rest y)
     (λ t. calm_keeps capacity h y Connected (packets.UnsubAck i) rest [] (without_claim i h.end.book.claimed) refl refl tt refl refl
     (books.releases capacity i h.end.book b.own_x.0) b)
@@ -163,29 +163,29 @@ published_0 capacity h y st q i m b =
     b
 
 -- The stored messages with one more.
-held_1 : (es : List Entry) (i : ℕ) (m : Message) (sent : Bool)
+held_1 : (es : List SenderEntry) (i : ℕ) (m : Message) (sent : Bool)
     → held Q1 (es ++ record { id = i; message = record m { qos = Q1 }; sent = sent } ∷ []) ≡ held Q1 es ++ (i, record m { qos = Q1 }) ∷ []
 held_1 es i m sent = held_append Q1 es (record { id = i; message = record m { qos = Q1 }; sent = sent } ∷ [])
 
-held_1_other : (es : List Entry) (i : ℕ) (m : Message) (sent : Bool)
+held_1_other : (es : List SenderEntry) (i : ℕ) (m : Message) (sent : Bool)
     → held Q2 (es ++ record { id = i; message = record m { qos = Q1 }; sent = sent } ∷ []) ≡ held Q2 es
 held_1_other es i m sent = held_append Q2 es (record { id = i; message = record m { qos = Q1 }; sent = sent } ∷ []) ∙ append-nil (held Q2 es)
 
-held_2 : (es : List Entry) (i : ℕ) (m : Message) (sent : Bool)
+held_2 : (es : List SenderEntry) (i : ℕ) (m : Message) (sent : Bool)
     → held Q2 (es ++ record { id = i; message = record m { qos = Q2 }; sent = sent } ∷ []) ≡ held Q2 es ++ (i, record m { qos = Q2 }) ∷ []
 held_2 es i m sent = held_append Q2 es (record { id = i; message = record m { qos = Q2 }; sent = sent } ∷ [])
 
-held_2_other : (es : List Entry) (i : ℕ) (m : Message) (sent : Bool)
+held_2_other : (es : List SenderEntry) (i : ℕ) (m : Message) (sent : Bool)
     → held Q1 (es ++ record { id = i; message = record m { qos = Q2 }; sent = sent } ∷ []) ≡ held Q1 es
 held_2_other es i m sent = held_append Q1 es (record { id = i; message = record m { qos = Q2 }; sent = sent } ∷ []) ∙ append-nil (held Q1 es)
 
 -- a message of quality of service 1 or 2 is in the book, unsent
-unsent_own : (capacity : ℕ) (st : State) (b : SenderBook) (e : Entry) → is_up st ≡ false → IsHeld e → OwnOf capacity st b
+unsent_own : (capacity : ℕ) (st : State) (b : SenderBook) (e : SenderEntry) → is_up st ≡ false → IsHeld e → OwnOf capacity st b
     → IsSound capacity (record b { entries = b.entries ++ e ∷ [] }) → OwnOf capacity st (record b { entries = b.entries ++ e ∷ [] })
 unsent_own capacity st b e down is_held own s =
     (s, subst (λ (t : Bool). When t (Each IsSent (b.entries ++ e ∷ []))) (sym down) tt, each_append IsHeld b.entries (e ∷ []) own.2 (is_held, tt))
 
-sent_own : (capacity : ℕ) (b : SenderBook) (e : Entry) → IsSent e → IsHeld e → OwnOf capacity Connected b
+sent_own : (capacity : ℕ) (b : SenderBook) (e : SenderEntry) → IsSent e → IsHeld e → OwnOf capacity Connected b
     → IsSound capacity (record b { entries = b.entries ++ e ∷ [] }) → OwnOf capacity Connected (record b { entries = b.entries ++ e ∷ [] })
 sent_own capacity b e is_sent is_held own s =
     (s, each_append IsSent b.entries (e ∷ []) own.1 (is_sent, tt), each_append IsHeld b.entries (e ∷ []) own.2 (is_held, tt))

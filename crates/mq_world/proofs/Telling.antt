@@ -16,7 +16,7 @@ use Rattle.mq_world.specs.declared.event.Event.{Event}
 use Rattle.mq_world.specs.declared.event.Event.TheVariants as events
 use Rattle.mq_world.specs.declared.answer.Answer.{Answer}
 use Rattle.mq_world.specs.declared.answer.Answer.TheVariants as answers
-use Rattle.mq_world.specs.declared.answer.Delivery.{Delivery}
+use Rattle.mq_world.specs.declared.answer.DeliveredBytes.{DeliveredBytes}
 use Rattle.mq_world.specs.declared.answer.Opening.{Opening}
 use Rattle.mq_world.specs.Half.{Accepted, Publishes, Drops, Leaves, Pings, accepted_with, freed_with}
 use Rattle.mq_world.specs.Machine.{Machine, Move, By, Opens, Restarts, Run, after}
@@ -92,7 +92,7 @@ nothing_told p l none free = λ i. record {
 }
 
 -- bytes that came to a side with a connection, and to one without
-told_heard : (limit : Bounds) (capacity : ℕ) (side : Side) (w v : Wired) (m : Machine) (count : ℕ) (d : Delivery) → Stands limit capacity w m
+told_heard : (limit : Bounds) (capacity : ℕ) (side : Side) (w v : Wired) (m : Machine) (count : ℕ) (d : DeliveredBytes) → Stands limit capacity w m
     → IsDelivered limit capacity side count d w v → is_live (near side w).state.end.state ≡ true
     → Tells limit capacity m (events.Deliver side count ∷ []) (answers.Delivered d ∷ []) v
 told_heard limit capacity Client w v m count d s h on =
@@ -118,14 +118,14 @@ told_heard limit capacity Server w v m count d s h on =
       server = now.1 ∙ (ap (λ (u : Wired). wired_lists u.server) world ∙ ap (with_progress d.progress) (sym before.1));
     }
 
-told_ignored : (limit : Bounds) (capacity : ℕ) (side : Side) (v : Wired) (m : Machine) (count : ℕ) (d : Delivery) → Stands limit capacity v m
+told_ignored : (limit : Bounds) (capacity : ℕ) (side : Side) (v : Wired) (m : Machine) (count : ℕ) (d : DeliveredBytes) → Stands limit capacity v m
     → d.progress.happenings ≡ [] → d.progress.acknowledged ≡ [] → Tells limit capacity m (events.Deliver side count ∷ []) (answers.Delivered d ∷ []) v
 told_ignored limit capacity Client v m count d s none free =
     record { moves = []; follows = unmoved limit capacity v m s; client = nothing_told d.progress (lists_of m.client) none free; server = refl }
 told_ignored limit capacity Server v m count d s none free =
     record { moves = []; follows = unmoved limit capacity v m s; client = refl; server = nothing_told d.progress (lists_of m.server) none free }
 
-told_delivery : OverBytes → (limit : Bounds) (capacity : ℕ) (side : Side) (w v : Wired) (m : Machine) (count : ℕ) (d : Delivery) → Stands limit capacity w m
+told_delivery : OverBytes → (limit : Bounds) (capacity : ℕ) (side : Side) (w v : Wired) (m : Machine) (count : ℕ) (d : DeliveredBytes) → Stands limit capacity w m
     → IsDelivered limit capacity side count d w v → Tells limit capacity m (events.Deliver side count ∷ []) (answers.Delivered d ∷ []) v
 told_delivery law limit capacity side w v m count d s h =
     live_or_not (is_live (near side w).state.end.state) (Tells limit capacity m (events.Deliver side count ∷ []) (answers.Delivered d ∷ []) v)

@@ -13,7 +13,7 @@ use Rattle.mq_packet.specs.declared.connack.ConnAck.TheVariants as connacks
 use Rattle.mq_packet.specs.declared.connack.RefusalCode.TheVariants.{IdentifierRejected}
 use Rattle.mq_packet.specs.declared.packet.Packet.{Packet}
 use Rattle.mq_packet.specs.declared.packet.Packet.TheVariants as packets
-use Rattle.mq_flow.specs.declared.entry.Entry.{Entry}
+use Rattle.mq_flow.specs.declared.entry.SenderEntry.{SenderEntry}
 use Rattle.mq_flow.specs.declared.claim.Claimed.{Claimed}
 use Rattle.mq_flow.specs.Sender.{SenderBook, held, uses, same_qos, release, awaits_suback, awaits_unsuback}
 use Rattle.mq_flow.specs.Receiver.{ReceiverBook}
@@ -25,7 +25,7 @@ use Rattle.mq_end.specs.declared.state.State.TheVariants.{Disconnected, Connecti
 use Rattle.mq_end.specs.declared.happening.Happening.TheVariants as happens
 use Rattle.mq_end.specs.declared.reason.CloseReason.{CloseReason}
 use Rattle.mq_end.specs.declared.reason.CloseReason.TheVariants as reasons
-use Rattle.mq_end.specs.End.{End, Reply, tells, closes, comes_up, first_reason, one_by_one}
+use Rattle.mq_end.specs.End.{End, Reply, reports_event, closes, becomes_connected, first_reason, one_by_one}
 use Rattle.mq_end.specs.Both.{stores, publish_gets, flow_gets, publishes_at}
 use Rattle.mq_end.specs.Client.{connack_gets, client_open_gets, client_up_gets}
 use Rattle.mq_end.specs.Server.{refuses, server_open_gets, server_up_gets}
@@ -98,13 +98,13 @@ FitsIn p window r = Unit {0}
 -- A sender has at most `capacity` messages in flight.
 few : (capacity : ℕ) (b : SenderBook) → IsSound capacity b → length (ids (held Q2 b.entries) ++ b.released) ≤ capacity
 few capacity b s =
-    let es : List Entry = b.entries in
+    let es : List SenderEntry = b.entries in
     let a = length-append (ids (held Q2 es)) b.released in
     let c = length-map (held Q2 es) (λ (p : ℕ × Message). p.0) in
-    let d = length-map {B = ℕ × Message} (filter (λ (e : Entry). same_qos Q2 e.message.qos) es) (λ (e : Entry). (e.id, e.message)) in
-    let f = filter_le (λ (e : Entry). same_qos Q2 e.message.qos) es in
-    let g = length-map es (λ (e : Entry). e.id) in
-    let h = length-append (map (λ (e : Entry). e.id) es) (b.released ++ map (λ (c : Claimed). c.id) b.claimed) in
+    let d = length-map {B = ℕ × Message} (filter (λ (e : SenderEntry). same_qos Q2 e.message.qos) es) (λ (e : SenderEntry). (e.id, e.message)) in
+    let f = filter_le (λ (e : SenderEntry). same_qos Q2 e.message.qos) es in
+    let g = length-map es (λ (e : SenderEntry). e.id) in
+    let h = length-append (map (λ (e : SenderEntry). e.id) es) (b.released ++ map (λ (c : Claimed). c.id) b.claimed) in
     let k = length-append b.released (map (λ (c : Claimed). c.id) b.claimed) in
     let w : length (uses b) ≤ capacity = s.within in
     omega arith
@@ -156,7 +156,7 @@ connack_other : (a : ConnAck) (e : End) → Other (connack_gets a e)
 connack_other (connacks.Refused code) e = tt
 connack_other (connacks.Accepted present) e =
     cond_both (e.clean && present) (closes reasons.Unexpected e) _ Other (λ t. tt)
-    (λ f. cond_both (not e.clean && (e.known && not present)) (closes reasons.SessionLost e) (comes_up [] present e) Other (λ t. tt) (λ f. tt))
+    (λ f. cond_both (not e.clean && (e.known && not present)) (closes reasons.SessionLost e) (becomes_connected [] present e) Other (λ t. tt) (λ f. tt))
 
 client_open_other : (p : Packet) (e : End) → Other (client_open_gets p e)
 client_open_other (packets.ConnAck a) e = connack_other a e
@@ -164,10 +164,10 @@ client_open_other p e = tt
 
 client_up_other : (p : Packet) (e : End) → FitsIn p e.window e.received → Other (client_up_gets p e)
 client_up_other (packets.SubAck i codes) e f =
-    cond_both (awaits_suback i (length codes) e.book) (tells (happens.SubAck i codes) (record e { book = release i e.book }))
+    cond_both (awaits_suback i (length codes) e.book) (reports_event (happens.SubAck i codes) (record e { book = release i e.book }))
     (closes reasons.Unexpected e) Other (λ t. tt) (λ f. tt)
 client_up_other (packets.UnsubAck i) e f =
-    cond_both (awaits_unsuback i e.book) (tells (happens.UnsubAck i) (record e { book = release i e.book })) (closes reasons.Unexpected e) Other
+    cond_both (awaits_unsuback i e.book) (reports_event (happens.UnsubAck i) (record e { book = release i e.book })) (closes reasons.Unexpected e) Other
     (λ t. tt) (λ f. tt)
 client_up_other packets.PingResp e f = tt
 client_up_other p e f = flow_other p e f

@@ -24,7 +24,7 @@ use Rattle.mq_world.specs.declared.side.Side.{Side}
 use Rattle.mq_world.specs.declared.side.Side.TheVariants.{Client, Server}
 use Rattle.mq_world.specs.declared.event.Event.{Event}
 use Rattle.mq_world.specs.declared.answer.Answer.{Answer}
-use Rattle.mq_world.specs.declared.answer.Delivery.{Delivery}
+use Rattle.mq_world.specs.declared.answer.DeliveredBytes.{DeliveredBytes}
 use Rattle.mq_world.specs.declared.answer.Opening.{Opening}
 use Rattle.mq_world.specs.declared.answer.Settling.{Settling}
 use Rattle.mq_world.specs.Half.{Publishes, Drops, refusal, freed_with, accepted_with}
@@ -176,7 +176,7 @@ published_at law limit capacity side w v m message copy twin answer new out s on
 
 -- ---- bytes that come
 
-ignored : (limit : Bounds) (capacity : ℕ) (side : Side) (w v : Wired) (m : Machine) (left : List ℕ) (d : Delivery) (new : EndState) → Stands limit capacity w m
+ignored : (limit : Bounds) (capacity : ℕ) (side : Side) (w v : Wired) (m : Machine) (left : List ℕ) (d : DeliveredBytes) (new : EndState) → Stands limit capacity w m
     → new ≡ (near side w).state → (d.progress.happenings ≡ []) × (d.progress.acknowledged ≡ []) × (d.progress.closed ≡ None)
     → v ≡ facing side (hearing left new d.progress.happenings d.progress.acknowledged d.progress.closed (near side w)) (with_more new.output (far side w))
     → Ignores side left d w v
@@ -196,7 +196,7 @@ ignored limit capacity side w v m left d new s same none e =
     let two : with_more new.output (far side w) ≡ far side w = ap (λ (b : List ℕ). with_more b (far side w)) quiet ∙ no_more_bytes (far side w) in
     record { happenings = none.0; acknowledged = none.1; closed = none.2; world = e ∙ (λ i. facing side (one i) (two i)) }
 
-pub delivered_at : OverBytes → (limit : Bounds) (capacity : ℕ) (side : Side) (w v : Wired) (m : Machine) (count : ℕ) (d : Delivery) (new : EndState)
+pub delivered_at : OverBytes → (limit : Bounds) (capacity : ℕ) (side : Side) (w v : Wired) (m : Machine) (count : ℕ) (d : DeliveredBytes) (new : EndState)
     → Stands limit capacity w m
     → d.side ≡ side → d.bytes ≡ take count (near side w).wire
     → d.lost ≡ (not (is_live (near side w).state.end.state) && nat_lt 0 (length d.bytes))
@@ -235,7 +235,7 @@ delivered_at law limit capacity side w v m count d new s to bytes lost live dead
     }
 
 -- bytes arrive, and each part of the world is as it says
-pub heard_at : OverBytes → (limit : Bounds) (capacity : ℕ) (side : Side) (w v : Wired) (m : Machine) (count : ℕ) (d : Delivery) (piece : List ℕ)
+pub heard_at : OverBytes → (limit : Bounds) (capacity : ℕ) (side : Side) (w v : Wired) (m : Machine) (count : ℕ) (d : DeliveredBytes) (piece : List ℕ)
     (new : EndState) (out : List ℕ) → Stands limit capacity w m
     → d.side ≡ side → d.bytes ≡ take count (near side w).wire → piece ≡ d.bytes
     → d.lost ≡ (not (is_live (near side w).state.end.state) && nat_lt 0 (length d.bytes))
@@ -355,7 +355,7 @@ pub live_or_not : (b : Bool) (A : Type 0) → (b ≡ true → A) → (b ≡ fals
 live_or_not true A f g = f refl
 live_or_not false A f g = g refl
 
-pub stands_delivered : OverBytes → (limit : Bounds) (capacity : ℕ) (side : Side) (w v : Wired) (m : Machine) (count : ℕ) (d : Delivery)
+pub stands_delivered : OverBytes → (limit : Bounds) (capacity : ℕ) (side : Side) (w v : Wired) (m : Machine) (count : ℕ) (d : DeliveredBytes)
     → Stands limit capacity w m → IsDelivered limit capacity side count d w v → StandsStill limit capacity v m
 stands_delivered law limit capacity side w v m count d s h = live_or_not (is_live (near side w).state.end.state) (StandsStill limit capacity v m)
     (λ on. let a = h.arrive on m s in let g = a.follows in (g.machine, g.stands, run_windows limit.most capacity m a.moves g.machine g.run))
@@ -381,7 +381,7 @@ leads_more limit capacity [] (b ∷ rest) e a u v w h d = absurd h
 leads_more limit capacity (f ∷ es) [] e a u v w h d = absurd h
 
 -- a side more at the end
-pub turn_more : (limit : Bounds) (capacity : ℕ) (sides : List Side) (ds : List Delivery) (side : Side) (d : Delivery) (u v w : Wired)
+pub turn_more : (limit : Bounds) (capacity : ℕ) (sides : List Side) (ds : List DeliveredBytes) (side : Side) (d : DeliveredBytes) (u v w : Wired)
     → InTurn limit capacity sides ds u v → IsDelivered limit capacity side (length (near side v).wire) d v w
     → InTurn limit capacity (sides ++ side ∷ []) (ds ++ d ∷ []) u w
 turn_more limit capacity [] [] side d u v w h k = (w, subst (λ (x : Wired). IsDelivered limit capacity side (length (near side x).wire) d x w) h k, refl)
@@ -389,7 +389,7 @@ turn_more limit capacity (s ∷ sides) (b ∷ ds) side d u v w h k = (h.0, h.1, 
 turn_more limit capacity [] (b ∷ ds) side d u v w h k = absurd h
 turn_more limit capacity (s ∷ sides) [] side d u v w h k = absurd h
 
-pub stands_turned : OverBytes → (limit : Bounds) (capacity : ℕ) (sides : List Side) (ds : List Delivery) (u v : Wired) (m : Machine)
+pub stands_turned : OverBytes → (limit : Bounds) (capacity : ℕ) (sides : List Side) (ds : List DeliveredBytes) (u v : Wired) (m : Machine)
     → Stands limit capacity u m → InTurn limit capacity sides ds u v → StandsStill limit capacity v m
 stands_turned law limit capacity [] [] u v m s h = (m, subst (λ (x : Wired). Stands limit capacity x m) (sym h) s, (refl, refl))
 stands_turned law limit capacity (side ∷ sides) (d ∷ ds) u v m s h =
@@ -399,7 +399,7 @@ stands_turned law limit capacity (side ∷ sides) (d ∷ ds) u v m s h =
 stands_turned law limit capacity [] (d ∷ ds) u v m s h = absurd h
 stands_turned law limit capacity (side ∷ sides) [] u v m s h = absurd h
 
-pub turn_next : (limit : Bounds) (capacity : ℕ) (sides : List Side) (k : ℕ) (ds : List Delivery) (side other : Side) (d : Delivery) (u v w : Wired)
+pub turn_next : (limit : Bounds) (capacity : ℕ) (sides : List Side) (k : ℕ) (ds : List DeliveredBytes) (side other : Side) (d : DeliveredBytes) (u v w : Wired)
     → k < length sides → side ≡ get_or sides k other
     → InTurn limit capacity (take k sides) ds u v → IsDelivered limit capacity side (length (near side v).wire) d v w
     → InTurn limit capacity (take (k + 1) sides) (ds ++ d ∷ []) u w

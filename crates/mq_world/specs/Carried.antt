@@ -6,7 +6,7 @@ use Rattle.mq_packet.specs.declared.message.Message.{Message}
 use Rattle.mq_packet.specs.declared.publish.Delivery.{Delivery}
 use Rattle.mq_packet.specs.declared.packet.Packet.{Packet}
 use Rattle.mq_packet.specs.declared.packet.Packet.TheVariants as packets
-use Rattle.mq_flow.specs.declared.entry.Entry.{Entry}
+use Rattle.mq_flow.specs.declared.entry.SenderEntry.{SenderEntry}
 use Rattle.mq_end.specs.Both.{has_identifier}
 use Rattle.mq_world.specs.Half.{Half, Publishes}
 use Rattle.mq_world.specs.Machine.{Machine, Move, By, Run, blank_machine, first_packet}
@@ -38,7 +38,7 @@ IsCarried test packets.Disconnect = Unit {0}
 IsCarried test packet = ⊥
 
 -- a message that passes the test is held, with its identifier (4.3.2, 4.3.3)
-abbrev pub IsEntry : (Message → Bool) → Entry → Type 0
+abbrev pub IsEntry : (Message → Bool) → SenderEntry → Type 0
 IsEntry test entry = (test entry.message ≡ true) × (has_identifier entry.message.qos ≡ true) × IsIdentifier entry.id
 
 -- a side holds only such messages, and only such packets are in flight to it

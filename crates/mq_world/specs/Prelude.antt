@@ -1,4 +1,4 @@
--- What the source files of this crate cite. It declares nothing itself.
+-- The names that the source files of this crate cite. It declares none of its own.
 pub use Rattle.mq_decode.specs.Limits.{Bounds}
 pub use Rattle.mq_end.specs.Both.{answered_identifier}
 pub use Rattle.mq_end.specs.End.{is_live, resumed}

@@ -20,7 +20,7 @@ use Rattle.mq_world.specs.declared.event.Event.{Event}
 use Rattle.mq_world.specs.declared.event.Event.TheVariants as events
 use Rattle.mq_world.specs.declared.answer.Answer.{Answer}
 use Rattle.mq_world.specs.declared.answer.Answer.TheVariants as answers
-use Rattle.mq_world.specs.declared.answer.Delivery.{Delivery}
+use Rattle.mq_world.specs.declared.answer.DeliveredBytes.{DeliveredBytes}
 use Rattle.mq_world.specs.declared.answer.Opening.{Opening}
 use Rattle.mq_world.specs.declared.answer.Settling.{Settling}
 use Rattle.mq_world.specs.Half.{Publishes, Drops, Leaves, refusal, freed_with}
@@ -77,7 +77,7 @@ pub record IsRefused (limit : Bounds) (capacity : ℕ) (side : Side) (message : 
   pub same : new ≡ old
 
 -- The end of a side that has a connection receives the bytes: the world after it.
-pub record Hears (side : Side) (left : List ℕ) (delivery : Delivery) (old new : Wired) : Type 0 where
+pub record Hears (side : Side) (left : List ℕ) (delivery : DeliveredBytes) (old new : Wired) : Type 0 where
   pub state : EndState
   pub receives : ReceivesAt side delivery.bytes (near side old).state state delivery.progress.happenings delivery.progress.acknowledged delivery.progress.closed
   pub bounds : SameBounds (near side old).state state
@@ -87,14 +87,14 @@ pub record Hears (side : Side) (left : List ℕ) (delivery : Delivery) (old new 
   pub heard : HearsIn side ((near side old).state.held ++ delivery.bytes) delivery.progress.closed (near side old) (near side new)
 
 -- The end of a side without a connection lets the bytes go.
-pub record Ignores (side : Side) (left : List ℕ) (delivery : Delivery) (old new : Wired) : Type 0 where
+pub record Ignores (side : Side) (left : List ℕ) (delivery : DeliveredBytes) (old new : Wired) : Type 0 where
   pub happenings : delivery.progress.happenings ≡ []
   pub acknowledged : delivery.progress.acknowledged ≡ []
   pub closed : delivery.progress.closed ≡ None
   pub world : new ≡ facing side (record (near side old) { wire = left }) (far side old)
 
 -- Some bytes arrive at a side, or all bytes in flight to it if there are fewer (4.2, 4.6).
-pub record IsDelivered (limit : Bounds) (capacity : ℕ) (side : Side) (count : ℕ) (delivery : Delivery) (old new : Wired) : Type 0 where
+pub record IsDelivered (limit : Bounds) (capacity : ℕ) (side : Side) (count : ℕ) (delivery : DeliveredBytes) (old new : Wired) : Type 0 where
   pub to : delivery.side ≡ side
   pub bytes : delivery.bytes ≡ take count (near side old).wire
   -- they are no longer in flight, and an end that closes leaves nothing there
@@ -200,7 +200,7 @@ Leads limit capacity (event ∷ next_events) [] old new = ⊥
 -- ---- settling
 
 -- All bytes that are in flight to each of these sides come, one side after another.
-abbrev pub InTurn : Bounds → ℕ → List Side → List Delivery → Wired → Wired → Type 0
+abbrev pub InTurn : Bounds → ℕ → List Side → List DeliveredBytes → Wired → Wired → Type 0
 InTurn limit capacity [] [] old new = new ≡ old
 InTurn limit capacity (side ∷ sides) (delivery ∷ rest) old new =
     (mid : Wired) × IsDelivered limit capacity side (length (near side old).wire) delivery old mid × InTurn limit capacity sides rest mid new

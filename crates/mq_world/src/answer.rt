@@ -9,7 +9,7 @@ use std::alloc::AllocError;
 
 /// Bytes that arrived at a side, and their effect.
 #[derive(Debug, Drop)]
-pub struct Delivery {
+pub struct DeliveredBytes {
     /// The side to which the bytes arrived.
     pub side: Side,
     /// The bytes that arrived.
@@ -37,7 +37,7 @@ pub struct Settling {
     /// The result of the opening.
     pub opening: Opening,
     /// The deliveries in order: to the server, to the client, and so on.
-    pub deliveries: BoxedList<Delivery>,
+    pub deliveries: BoxedList<DeliveredBytes>,
     /// Whether both sides are idle: neither stores unfinished messages.
     pub idle: bool,
 }
@@ -48,7 +48,7 @@ pub enum Answer {
     /// A message was accepted, with its packet identifier if it has one, or it was refused.
     Published(Side, Result<Option<PacketId>, PublishRefusal>),
     /// Bytes arrived at a side.
-    Delivered(Delivery),
+    Delivered(DeliveredBytes),
     /// The connection of a side is lost. The flag says whether it was open.
     Dropped(Side, bool),
     /// The client was dropped, and made anew from its session as saved; or memory ran out
@@ -65,12 +65,12 @@ pub enum Answer {
     Settled(Settling),
 }
 
-impl Clone for Delivery {
+impl Clone for DeliveredBytes {
     ghost is_clone = { λ delivery copy. copy ≡ delivery };
 
     /// Shares the bytes of the messages.
-    fn clone(&self) -> Result<Delivery, AllocError> {
-        Ok(Delivery {
+    fn clone(&self) -> Result<DeliveredBytes, AllocError> {
+        Ok(DeliveredBytes {
             side: self.side,
             bytes: self.bytes.clone()?,
             lost: self.lost,

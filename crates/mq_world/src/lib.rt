@@ -17,7 +17,7 @@ mod trace;
 mod world;
 
 pub use crate::account::Account;
-pub use crate::answer::{Answer, Delivery, Opening, Settling};
+pub use crate::answer::{Answer, DeliveredBytes, Opening, Settling};
 pub use crate::event::Event;
 pub use crate::laws::{
     arrivals_at_once, carried, event_by_event, examples, headline, identifiers, over_bytes, runs,

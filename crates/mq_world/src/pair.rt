@@ -3,7 +3,7 @@
 ghost use Rattle.std.specs.Prelude.{◌≡◌, ◌++◌, ◌↔◌, ◌<◌, ◌&&◌, ℕ, true, false, not, nat_lt, take, drop, length, OnOk, OnErr, IfOk, IfSome, IsTrue};
 ghost use Rattle.mq_world.specs.Prelude.{Bounds, is_live, connect_of, IsSpanned, AcceptedGrows, accepted_in, Machine, first_packet, Stands, near, left_on, wired_of, SettledFrom, Does, IsDelivered, IsOpened, IsSettled, IsIdle, MetNoWant};
 
-use crate::answer::{Answer, Delivery, Opening, Settling};
+use crate::answer::{Answer, DeliveredBytes, Opening, Settling};
 use crate::event::Event;
 use crate::laws::{over_bytes, settles_over_bytes};
 use crate::restart::{Terms, client_config, made_anew};
@@ -83,7 +83,7 @@ impl Pair {
     }
 
     // Delivers `count` bytes to the client, or all in flight to it if there are fewer.
-    fn deliver_to_client(&mut self, count: usize) -> Result<Delivery, AllocError>
+    fn deliver_to_client(&mut self, count: usize) -> Result<DeliveredBytes, AllocError>
         ensures delivered { IfOk result (λ delivery. (limit : Bounds) (capacity : ℕ) (m : Machine) → Stands limit capacity (wired_of self.old) m
             → IsDelivered limit capacity Side.Client count delivery (wired_of self.old) (wired_of self.new)) }
         ensures config { self.new.client.config ≡ self.old.client.config }
@@ -100,7 +100,7 @@ impl Pair {
         carry(&mut self.to_server, output)?;
         self.trace.client.tell(&progress)?;
         let lost = is_lost(live, bytes.as_slice());
-        Ok(Delivery {
+        Ok(DeliveredBytes {
             side: Side::Client,
             bytes,
             lost,
@@ -109,7 +109,7 @@ impl Pair {
     }
 
     // Delivers `count` bytes to the server, or all in flight to it if there are fewer.
-    fn deliver_to_server(&mut self, count: usize) -> Result<Delivery, AllocError>
+    fn deliver_to_server(&mut self, count: usize) -> Result<DeliveredBytes, AllocError>
         ensures delivered { IfOk result (λ delivery. (limit : Bounds) (capacity : ℕ) (m : Machine) → Stands limit capacity (wired_of self.old) m
             → IsDelivered limit capacity Side.Server count delivery (wired_of self.old) (wired_of self.new)) }
         ensures config { self.new.client.config ≡ self.old.client.config }
@@ -126,7 +126,7 @@ impl Pair {
         carry(&mut self.to_client, output)?;
         self.trace.server.tell(&progress)?;
         let lost = is_lost(live, bytes.as_slice());
-        Ok(Delivery {
+        Ok(DeliveredBytes {
             side: Side::Server,
             bytes,
             lost,
@@ -135,7 +135,7 @@ impl Pair {
     }
 
     // Delivers `count` bytes to a side, or all in flight to it if there are fewer.
-    fn deliver(&mut self, side: Side, count: usize) -> Result<Delivery, AllocError>
+    fn deliver(&mut self, side: Side, count: usize) -> Result<DeliveredBytes, AllocError>
         ensures delivered { IfOk result (λ delivery. (limit : Bounds) (capacity : ℕ) (m : Machine) → Stands limit capacity (wired_of self.old) m
             → IsDelivered limit capacity side count delivery (wired_of self.old) (wired_of self.new)) }
         ensures config { self.new.client.config ≡ self.old.client.config }
@@ -150,7 +150,7 @@ impl Pair {
     }
 
     // Delivers all bytes in flight to a side.
-    fn deliver_all(&mut self, side: Side) -> Result<Delivery, AllocError>
+    fn deliver_all(&mut self, side: Side) -> Result<DeliveredBytes, AllocError>
         ensures delivered { IfOk result (λ delivery. (limit : Bounds) (capacity : ℕ) (m : Machine) → Stands limit capacity (wired_of self.old) m
             → IsDelivered limit capacity side (length (near side (wired_of self.old)).wire) delivery (wired_of self.old) (wired_of self.new)) }
         ensures config { self.new.client.config ≡ self.old.client.config }

@@ -43,7 +43,7 @@ enum Step {
 
 // What a row of a test does with a world.
 #[derive(Clone, Copy)]
-enum Act {
+enum Action {
     // Makes an event.
     Make(Step),
     // Settles.
@@ -95,11 +95,11 @@ fn settle(alloc: Global, world: &mut World) -> Result<String, AllocError> {
     told_of_copy(alloc, world.settle()?)
 }
 
-fn told(alloc: Global, world: &mut World, act: Act) -> Result<String, Fail> {
+fn told(alloc: Global, world: &mut World, act: Action) -> Result<String, Fail> {
     Ok(match act {
-        Act::Make(step) => make(alloc, world, &event_of(alloc, step)?)?,
-        Act::Settle => settle(alloc, world)?,
-        Act::Look(ask) => ask::told(alloc, world, ask)?,
+        Action::Make(step) => make(alloc, world, &event_of(alloc, step)?)?,
+        Action::Settle => settle(alloc, world)?,
+        Action::Look(ask) => ask::told(alloc, world, ask)?,
     })
 }
 
@@ -108,7 +108,7 @@ fn expect(
     alloc: Global,
     name: &str,
     world: &mut World,
-    acts: &[(Act, &str)],
+    acts: &[(Action, &str)],
 ) -> Result<(), Fail> {
     for (act, wanted) in acts {
         expect_told(rt, told(alloc, world, *act), *wanted, name)?;
@@ -122,7 +122,7 @@ struct Row {
     name: &'static str,
     max_packet: u32,
     capacity: u16,
-    acts: &'static [(Act, &'static str)],
+    acts: &'static [(Action, &'static str)],
 }
 
 fn expect_of_row(rt: &impl Abort, alloc: Global, row: &Row) -> Result<(), Fail> {

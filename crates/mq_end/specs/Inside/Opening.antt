@@ -7,7 +7,7 @@ use Rattle.mq_packet.specs.declared.connack.RefusalCode.TheVariants.{IdentifierR
 use Rattle.mq_packet.specs.declared.packet.Packet.{Packet}
 use Rattle.mq_packet.specs.declared.packet.Packet.TheVariants as packets
 use Rattle.mq_end.specs.declared.first_packet.Terms.{Terms}
-use Rattle.mq_end.specs.End.{End, Reply, comes_up, renewed}
+use Rattle.mq_end.specs.End.{End, Reply, becomes_connected, renewed}
 use Rattle.mq_end.specs.Server.{refuses}
 
 -- The CONNACK in a packet (3.2).
@@ -26,7 +26,7 @@ terms_in packet = None
 -- The response to an accepted CONNECT: CONNACK, and all retransmissions (3.1.4, 4.4).
 abbrev pub accepts_connect : Terms → Bool → End → Reply
 accepts_connect terms session_present end =
-    comes_up (packets.ConnAck (connacks.Accepted session_present) ∷ []) session_present (record (renewed terms.clean end) { keep_alive = terms.keep_alive })
+    becomes_connected (packets.ConnAck (connacks.Accepted session_present) ∷ []) session_present (record (renewed terms.clean end) { keep_alive = terms.keep_alive })
 
 -- The server's reaction to a CONNECT with these fields.
 abbrev pub terms_get : Terms → End → Reply

@@ -7,9 +7,9 @@ use Rattle.mq_route.specs.declared.conn.Conn.{Conn}
 use Rattle.mq_route.specs.Hub.{HubState, with_connection}
 use Rattle.mq_route.specs.declared.act.Act.{Act}
 use Rattle.mq_route.specs.Work.{Work}
-use Rattle.mq_route.specs.Step.{Comes}
+use Rattle.mq_route.specs.Step.{OnBytes}
 use Rattle.mq_route.specs.StepSome.{IsSparing}
-use Rattle.mq_route.specs.Arrives.{Growth, takes}
+use Rattle.mq_route.specs.Arrives.{Growth, on_packet}
 use Rattle.mq_tables.specs.Connections.{holds, touched_at}
 use Rattle.mq_hub.specs.declared.input.decoder.Next.{Next}
 use Rattle.mq_hub.specs.declared.input.decoder.Next.TheVariants.{Packet as Arrived, Waits, Closed}
@@ -27,7 +27,7 @@ with_touched conn hub = record hub { connections = with_connection (touched_at h
 -- leaves the number of acts below the limit.
 pub record HandlesBytes (limits : Bounds) (conn : Conn) (most : ℕ) (bytes : List ℕ) (work : Work) (new : HubState) (says : List Act) : Type 0 where
   pub after : Work
-  pub comes : Comes limits conn bytes work after
+  pub comes : OnBytes limits conn bytes work after
   pub sparing : IsSparing most limits conn bytes work after comes
   pub hub : after.hub ≡ new
   pub did : after.did ≡ says
@@ -44,7 +44,7 @@ pub record HandlesPacket (limits : Bounds) (conn : Conn) (held rest : List ℕ) 
   pub growth : Growth
   pub within : used ≤ length rest
   pub reads : ReadsWithin limits packet (held ++ take used rest)
-  pub goes : Refines (takes conn packet growth) old said new says
+  pub goes : Refines (on_packet conn packet growth) old said new says
 
 -- The result of decoding at the front of the held bytes and these: the packet's effect, or nothing,
 -- or a closed connection. `left` is held afterwards.

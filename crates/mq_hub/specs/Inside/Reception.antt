@@ -9,19 +9,19 @@ use Rattle.mq_end.specs.Server.{server_gets}
 use Rattle.mq_tables.specs.declared.sessions.session.BrokerSession.{BrokerSession}
 use Rattle.mq_tables.specs.Sessions.{session_at}
 use Rattle.mq_hub.specs.declared.publish.reception.Reception.{Reception}
-use Rattle.mq_hub.specs.declared.publish.reception.Reception.TheVariants.{Handed, Duplicate, WindowFull}
+use Rattle.mq_hub.specs.declared.publish.reception.Reception.TheVariants.{New, Duplicate, WindowFull}
 
 -- with quality of service 2: by whether its identifier fits the window, and whether it is stored
 -- (4.3.3)
 abbrev pub by_identifier : Bool → Bool → Reception
 by_identifier false stored = WindowFull
 by_identifier true true = Duplicate
-by_identifier true false = Handed
+by_identifier true false = New
 
 -- The class of a PUBLISH agrees with the end's reply: it delivers the message, or reports nothing
 -- of it, or closes and sends nothing.
 abbrev pub IsReceived : Reception → Publication → End → Type 0
-IsReceived Handed publication end =
+IsReceived New publication end =
     ((server_gets (packets.Publish publication) end).close ≡ None) × ((server_gets (packets.Publish publication) end).happenings ≡ happens.Handed publication.message ∷ [])
 IsReceived Duplicate publication end = ((server_gets (packets.Publish publication) end).close ≡ None) × ((server_gets (packets.Publish publication) end).happenings ≡ [])
 IsReceived WindowFull publication end = server_gets (packets.Publish publication) end ≡ closes reasons.Window end

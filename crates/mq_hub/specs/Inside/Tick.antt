@@ -8,7 +8,7 @@ use Rattle.mq_route.specs.declared.connection_state.ConnectionState.TheVariants.
 use Rattle.mq_route.specs.declared.conn.Conn.{Conn}
 use Rattle.mq_route.specs.Hub.{HubConnection, HubState}
 use Rattle.mq_route.specs.declared.act.Act.{Act}
-use Rattle.mq_route.specs.Step.{Ticks}
+use Rattle.mq_route.specs.Step.{OnTick}
 use Rattle.mq_route.specs.Work.{Work}
 use Rattle.mq_tables.specs.Alarms.{is_late_on}
 
@@ -26,7 +26,7 @@ late_of within now (Some connection) = if is_late_on within now connection.since
 -- Closing the late connections leads from `start` to `new` with these acts.
 pub record TicksFrom (within : Option ℕ) (now : ℕ) (start : Work) (new : HubState) (acts : List Act) : Type 0 where
   pub work : Work
-  pub ticks : Ticks within now start.hub.connections start work
+  pub ticks : OnTick within now start.hub.connections start work
   pub hub : new ≡ work.hub
   pub did : acts ≡ work.did
 

@@ -80,7 +80,7 @@ fn end_session<S: FilterStore>(
 
 // Closes a connection on which a client is connected (4.8), and ends its session if clean
 // session was 1 (3.1.2.4). Returns the will to publish.
-fn leave<S: FilterStore>(
+fn end_or_disconnect<S: FilterStore>(
     tables: &mut Tables<S>,
     alloc: Global,
     conn: Conn,
@@ -132,7 +132,7 @@ pub(crate) fn close_up<S: FilterStore>(
         → (n : List ℕ) → key_of n (sessions_of tables.old.sessions.list) ≡ Some key → key_of n (sessions_of tables.new.sessions.list) ≡ None }
     ensures room { log.old.room ≤ log.new.room + 3 }
 {
-    let will = leave(tables, alloc, conn, key, why, log);
+    let will = end_or_disconnect(tables, alloc, conn, key, why, log);
     last_will(tables, alloc, rules, key, will, log);
     tables.mark_left(key, now);
 }

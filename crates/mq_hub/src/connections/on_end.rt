@@ -1,7 +1,7 @@
 //! Ends a connection (4.2).
 
 ghost use Rattle.std.specs.Prelude.{◌≡◌, ◌≤◌, Bool, true, IfOk, IfErr, OnErr, None};
-ghost use Rattle.mq_hub.specs.Prelude.{is_open, key_on, knows, stage_of, without_connection, HubStep, ended_open, Refines};
+ghost use Rattle.mq_hub.specs.Prelude.{is_open, key_on, knows, stage_of, without_connection, HubStep, close_if_open, Refines};
 
 use crate::acts::ActLog;
 use crate::hub::HubOver;
@@ -20,7 +20,7 @@ impl<S: FilterStore> HubOver<S> {
     // Closes a connection if it is open, with `HubClose::PeerEnded`.
     fn close_open(&mut self, conn: Conn, log: &mut ActLog)
         requires room { 3 ≤ log.old.room }
-        ensures goes { (fits : Bool) × Refines (ended_open conn (is_open (stage_of conn self.old.connections)) fits) self.old log.old.acts self.new log.new.acts }
+        ensures goes { (fits : Bool) × Refines (close_if_open conn (is_open (stage_of conn self.old.connections)) fits) self.old log.old.acts self.new log.new.acts }
         ensures down { key_on (stage_of conn self.new.connections) ≡ None }
     {
         if self.is_open(conn) {

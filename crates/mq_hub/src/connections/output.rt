@@ -1,7 +1,7 @@
 //! The pending output of a connection (4.2).
 
 ghost use Rattle.std.specs.Prelude.{◌≡◌, ◌<◌, length, true, IfOk, IfErr, IfSome, OnOk, OnErr};
-ghost use Rattle.mq_hub.specs.Prelude.{is_open, knows, new_end, stage_of, waiting_on, HubStep, collected};
+ghost use Rattle.mq_hub.specs.Prelude.{is_open, knows, new_end, stage_of, waiting_on, HubStep, on_collect};
 
 use crate::hub::HubOver;
 use bytes::Bytes;
@@ -67,7 +67,7 @@ impl<S: FilterStore> HubOver<S> {
     fn collect(&mut self, conn: Conn) -> Result<Bytes, AllocError>
         requires { knows conn self.old.connections ≡ true }
         ensures bytes { IfOk result (λ b. b ≡ waiting_on conn self.old.connections) }
-        ensures taken { OnOk result (self.new ≡ collected conn self.old) }
+        ensures taken { OnOk result (self.new ≡ on_collect conn self.old) }
         ensures err { OnErr result (self.new ≡ self.old) }
     {
         match self.tables.key(conn) {

@@ -43,7 +43,7 @@ impl<S: FilterStore> HubOver<S> {
                 // Brings into the proof that the quality of service decides whether there is a
                 // delivery.
                 let _ = publish.delivery();
-                self.take_publish(conn, key, publish, log)
+                self.on_publish(conn, key, publish, log)
             }
             Packet::Subscribe { id, requests } => {
                 self.take_subscribe(conn, key, id, requests, log)

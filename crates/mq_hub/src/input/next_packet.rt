@@ -1,7 +1,7 @@
 //! Handles a whole packet of a connection (3.1 to 3.14).
 
 ghost use Rattle.std.specs.Prelude.{◌≡◌, ◌≤◌, true, length};
-ghost use Rattle.mq_hub.specs.Prelude.{fields, Growth, takes, is_open, stage_of, Refines};
+ghost use Rattle.mq_hub.specs.Prelude.{fields, Growth, on_packet, is_open, stage_of, Refines};
 
 use crate::acts::ActLog;
 use crate::hub::HubOver;
@@ -13,11 +13,11 @@ impl<S: FilterStore> HubOver<S> {
     /// Records the time of a whole packet (3.1.2.10) and handles it. Closes the connection if an
     /// allocation fails. The index is tried before a search.
     #[inline(always)]
-    pub(crate) fn takes(&mut self, conn: Conn, place: usize, packet: Packet, log: &mut ActLog)
+    pub(crate) fn on_packet(&mut self, conn: Conn, place: usize, packet: Packet, log: &mut ActLog)
         requires open { is_open (stage_of conn self.old.connections) ≡ true }
         requires within { length (fields packet) ≤ self.old.config.limits.most }
         requires room { 3 ≤ log.old.room }
-        ensures goes { (growth : Growth) × Refines (takes conn packet growth) self.old log.old.acts self.new log.new.acts }
+        ensures goes { (growth : Growth) × Refines (on_packet conn packet growth) self.old log.old.acts self.new log.new.acts }
         ensures room { is_open (stage_of conn self.new.connections) ≡ true → 3 ≤ log.new.room }
     {
         let up = self.touch(conn, place);

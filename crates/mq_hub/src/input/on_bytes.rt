@@ -32,7 +32,7 @@ impl<S: FilterStore> HubOver<S> {
     {
         match decoder.next_packet(bytes) {
             Ok(Some((packet, used))) => {
-                self.takes(conn, place, packet, log);
+                self.on_packet(conn, place, packet, log);
                 Next::Packet(used)
             }
             Ok(None) => Next::Waits,

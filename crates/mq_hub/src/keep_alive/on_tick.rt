@@ -1,24 +1,15 @@
 //! Closes the connections whose keep-alive has run out (3.1.2.10), and those without CONNECT (3.1).
 
 ghost use Rattle.std.specs.Prelude.{◌≡◌, ◌+◌, ◌*◌, ◌≤◌, ◌^◌, [], drop, false, length, max, slice_get, Some, IfOk, IfErr, IfNone, IfSome, OnErr, OnOk};
-ghost use Rattle.mq_hub.specs.Prelude.{IsNonDecreasing, is_late, knows, HubStep, told, connection_of, AreInTime, HasLate, IsIdleBefore, TicksTo, late_of};
+ghost use Rattle.mq_hub.specs.Prelude.{IsNonDecreasing, knows, HubStep, with_clock, connection_of, AreInTime, HasLate, IsIdleBefore, TicksTo, late_of};
 
 use crate::acts::ActLog;
 use crate::hub::HubOver;
-use mq_end::CloseReason;
+use mq_end::{CloseReason, is_late};
 use mq_route::{Conn, ConnectionState, HubClose, HubEvent, HubRefusal, HubReply};
 use mq_tables::{Connection, has_passed};
 use mq_topic::FilterStore;
 use std::alloc::AllocError;
-
-// Whether more than one and a half times the keep-alive has passed since the last packet. A
-// keep-alive of 0 switches the check off (3.1.2.10).
-fn is_late(last_activity: u64, keep_alive: u16, now: u64) -> bool
-    ensures { result ≡ is_late last_activity keep_alive now }
-{
-    let wait = 1_500 * u64::from(keep_alive);
-    wait > 0 && now > last_activity && now - last_activity > wait
-}
 
 // The name of a connection and the reason to close it, if it is late at this time.
 fn late(within: Option<u64>, connection: &Connection, now: u64) -> Option<(Conn, HubClose)>
@@ -60,7 +51,7 @@ impl<S: FilterStore> HubOver<S> {
     }
 
     fn set_clock(&mut self, now: u64)
-        ensures { self.new ≡ told now self.old }
+        ensures { self.new ≡ with_clock now self.old }
     {
         self.clock = self.clock.max(now);
     }

@@ -12,7 +12,7 @@ use std::alloc::AllocError;
 /// for messages and for the seven bytes of PUBACK or PUBREC still have room for the messages
 /// afterwards (3.4, 3.5).
 #[inline(always)]
-pub(crate) fn take_publish<S: FilterStore>(
+pub(crate) fn accept_publish<S: FilterStore>(
     tables: &mut Tables<S>,
     key: ClientKey,
     now: u64,
@@ -29,6 +29,6 @@ pub(crate) fn take_publish<S: FilterStore>(
     ensures outputs { OnOk result (HaveQueued (Some (publish_answer key delivery)) tables.old.sessions.list tables.new.sessions.list) }
     ensures err { OnErr result (AreAlike tables.old tables.new) }
 {
-    let _ = tables.sessions.take_publish(key, now, message, delivery)?;
+    let _ = tables.sessions.accept_publish(key, now, message, delivery)?;
     Ok(())
 }

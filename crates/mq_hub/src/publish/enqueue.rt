@@ -1,7 +1,7 @@
 //! The copies of a message, and their place in the sessions of the subscribers (3.3.5, 3.8.4).
 
 ghost use Rattle.std.specs.Prelude.{◌≡◌, ◌≤◌, ◌++◌, ◌∷◌, ◌&&◌, ◌||◌, [], ℕ, List, not, true, false, is_some, IfOk, OnOk, Ok};
-ghost use Rattle.mq_hub.specs.Prelude.{Message, HubState, copies_of, for_key, up_on, Act, HubConfig, all_fit, lacks_room, place_all, retained_copies, has_identifier, publish_size, AreSameButRoom, AreStillReady, IsReadyAt, HubTables, AreShared, Refines, HubInvariant, copies_found, is_among, placed_all, AreApart, AreFor, AreReady, AreUpAlike, Settles, placed_acts, with_list, AreHeard, CanPlace, HasSessions, IsFor, hub_of};
+ghost use Rattle.mq_hub.specs.Prelude.{Message, HubState, copies_of, for_key, up_on, Act, HubConfig, all_fit, lacks_room, enqueue_all, retained_copies, has_identifier, publish_size, AreSameButRoom, AreStillReady, IsReadyAt, HubTables, AreShared, Refines, HubInvariant, copies_found, is_among, placed_all, AreApart, AreFor, AreReady, AreUpAlike, Settles, placed_acts, with_list, AreHeard, CanPlace, HasSessions, IsFor, hub_of};
 
 use crate::publish::shared_copies::SharedCopies;
 use mq_end::PreparedMessage;
@@ -151,11 +151,11 @@ pub(crate) fn make_room(
 }
 
 /// Places messages for a client, whose session must have room for them (3.3.5).
-pub(crate) fn place_for(sessions: &mut Sessions, key: ClientKey, messages: Vec<Message>)
+pub(crate) fn enqueue_for(sessions: &mut Sessions, key: ClientKey, messages: Vec<Message>)
     requires { IsReadyAt key messages.items 0 sessions.old.list }
     ensures goes { (config : HubConfig) (clock : ℕ) (next_key : ℕ) (t : HubTables) (said says : List Act) (due : List (ℕ × Message))
         → t.sessions.list ≡ sessions.old.list → CanPlace t → AreHeard t.connections.connections due → Settles config (λ k. 0) sessions.old.list due (for_key key messages.items) says
-        → Refines (place_all due) (hub_of config clock next_key t) said (hub_of config clock next_key (with_list sessions.new.list t)) (said ++ says) }
+        → Refines (enqueue_all due) (hub_of config clock next_key t) said (hub_of config clock next_key (with_list sessions.new.list t)) (said ++ says) }
     ensures list { sessions.new.list ≡ placed_all (for_key key messages.items) sessions.old.list }
     ensures room { sessions.new.room ≡ sessions.old.room }
 {
@@ -165,12 +165,12 @@ pub(crate) fn place_for(sessions: &mut Sessions, key: ClientKey, messages: Vec<M
 }
 
 /// Places each copy for its client, whose session must have room for it (3.3.5).
-pub(crate) fn place_all(sessions: &mut Sessions, copies: Vec<PlannedCopy>)
+pub(crate) fn enqueue_all(sessions: &mut Sessions, copies: Vec<PlannedCopy>)
     requires apart { AreApart copies.items }
     requires ready { AreReady 0 sessions.old.list copies.items }
     ensures goes { (config : HubConfig) (clock : ℕ) (next_key : ℕ) (t : HubTables) (said says : List Act) (due : List (ℕ × Message))
         → t.sessions.list ≡ sessions.old.list → CanPlace t → AreHeard t.connections.connections due → Settles config (λ k. 0) sessions.old.list due copies.items says
-        → Refines (place_all due) (hub_of config clock next_key t) said (hub_of config clock next_key (with_list sessions.new.list t)) (said ++ says) }
+        → Refines (enqueue_all due) (hub_of config clock next_key t) said (hub_of config clock next_key (with_list sessions.new.list t)) (said ++ says) }
     ensures list { sessions.new.list ≡ placed_all copies.items sessions.old.list }
     ensures room { sessions.new.room ≡ sessions.old.room }
 {

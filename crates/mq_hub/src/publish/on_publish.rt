@@ -7,7 +7,7 @@ ghost use Rattle.mq_route.specs.declared.close.HubClose.TheVariants as whys;
 
 use crate::acts::ActLog;
 use crate::hub::HubOver;
-use crate::publish::acceptance::take_publish;
+use crate::publish::acceptance::accept_publish;
 use crate::publish::queued_answer::publish_answer;
 use crate::publish::reception::Reception;
 use crate::publish::reserve::{deliver, plan_delivery, reserve_delivery};
@@ -26,14 +26,14 @@ impl<S: FilterStore> HubOver<S> {
     // delivered. If a session has no room for its copy (2.3.1), the copy is missed, or `false` is
     // returned, with nothing changed, as the configuration says.
     #[inline(always)]
-    fn on_publish(
+    fn deliver_new(
         &mut self,
         key: ClientKey,
         publish: Publish,
         log: &mut ActLog,
     ) -> Result<bool, AllocError>
         requires up { is_some (up_on key self.old.connections) ≡ true }
-        requires handed { IsReceived Reception.Handed publish (end_of key self.old.sessions) }
+        requires handed { IsReceived Reception.New publish (end_of key self.old.sessions) }
         requires within { publish_size publish.message ≤ self.old.config.limits.most }
         requires room { 3 ≤ log.old.room }
         ensures takes { result ≡ Ok true → (conn : Conn) (fits : Bool)
@@ -64,7 +64,7 @@ impl<S: FilterStore> HubOver<S> {
         )? {
             return Ok(false);
         }
-        take_publish(&mut self.tables, key, now, &message, delivery)?;
+        accept_publish(&mut self.tables, key, now, &message, delivery)?;
         deliver(&mut self.tables, Act::Took(key, message), plan, log);
         Ok(true)
     }
@@ -73,7 +73,7 @@ impl<S: FilterStore> HubOver<S> {
     /// the connection if the identifier does not fit the receive window, or if a session has no
     /// room for its copy (2.3.1) and the configuration says so.
     #[inline(always)]
-    pub(crate) fn take_publish(
+    pub(crate) fn on_publish(
         &mut self,
         conn: Conn,
         key: ClientKey,
@@ -92,8 +92,8 @@ impl<S: FilterStore> HubOver<S> {
         ensures err_room { OnErr result (3 ≤ log.new.room) }
     {
         match self.reception(key, &publish) {
-            Reception::Handed => {
-                if self.on_publish(key, publish, log)? {
+            Reception::New => {
+                if self.deliver_new(key, publish, log)? {
                     return Ok(());
                 }
                 self.close(conn, HubClose::TargetFull, log);

@@ -15,7 +15,7 @@ use mq_topic::{ClientKey, FilterStore, Qos};
 #[derive(Clone, Copy)]
 pub(crate) enum Reception {
     /// Its message is new.
-    Handed,
+    New,
     /// Its message was delivered before (4.3.3).
     Duplicate,
     /// Its identifier is over the receive window: the connection closes (4.8).
@@ -32,7 +32,7 @@ fn by_identifier(id: PacketId, receiver: &Receiver, window: Option<u16>) -> Rece
     if receiver.is_stored(id) {
         Reception::Duplicate
     } else {
-        Reception::Handed
+        Reception::New
     }
 }
 
@@ -44,16 +44,16 @@ fn reception_at(end: &ServerEnd, publish: &Publish, window: Option<u16>) -> Rece
 {
     let qos = publish.message().qos;
     let Some(delivery) = publish.delivery() else {
-        return Reception::Handed;
+        return Reception::New;
     };
     // A known end has a session, so this is unreachable.
     let Some(session) = end.session() else {
-        return Reception::Handed;
+        return Reception::New;
     };
     if qos == Qos::Q2 {
         by_identifier(delivery.id, &session.receiver, window)
     } else {
-        Reception::Handed
+        Reception::New
     }
 }
 
@@ -69,7 +69,7 @@ fn class_of<S: FilterStore>(
     match tables.sessions.get(key) {
         Some(session) => reception_at(&session.end, publish, window),
         // A connected client has a session, so this is unreachable.
-        None => Reception::Handed,
+        None => Reception::New,
     }
 }
 

@@ -6,7 +6,7 @@ ghost use Rattle.mq_hub.specs.Prelude.{Message, publish_size, HubConfig, HubStat
 
 use crate::acts::ActLog;
 use crate::publish::delivery::{DeliveryPlan, push_all};
-use crate::publish::enqueue::{copies_of, place_all};
+use crate::publish::enqueue::{copies_of, enqueue_all};
 use crate::publish::queued_answer::QueuedAnswer;
 use mq_packet::Message;
 use mq_route::Act;
@@ -103,5 +103,5 @@ pub(crate) fn deliver<S: FilterStore>(
     tables.retained.retain_planned(kept);
     log.push(act);
     push_all(log, acts);
-    place_all(&mut tables.sessions, copies);
+    enqueue_all(&mut tables.sessions, copies);
 }

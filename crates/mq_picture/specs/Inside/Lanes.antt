@@ -3,7 +3,7 @@ use Rattle.std.specs.Prelude.{◌≡◌, ℕ, ◌+◌, ◌≤◌, List, [], ◌�
 use Rattle.std.specs.List.{flat_map}
 use Rattle.mq_world.specs.declared.side.Side.{Side}
 use Rattle.mq_world.specs.declared.side.Side.TheVariants.{Client, Server}
-use Rattle.mq_picture.specs.declared.entry.Entry.{Entry}
+use Rattle.mq_picture.specs.declared.entry.RecordEntry.{RecordEntry}
 use Rattle.mq_picture.specs.declared.rows.Chart.{Chart}
 use Rattle.mq_picture.specs.declared.rows.Flying.{Flying}
 use Rattle.mq_picture.specs.declared.rows.Lane.{Lane}
@@ -35,7 +35,7 @@ pub record Ends (count : ℕ) (before after : Lane) (old new : List Row) : Type 
   pub fair : All IsFair old → All IsFair new
 
 -- An incomplete diagram of a record: each packet is an arrow, or waits for it.
-pub record IsChart (history : List Entry) (chart : Chart) : Type 0 where
+pub record IsChart (history : List RecordEntry) (chart : Chart) : Type 0 where
   pub client : chart.to_client.to ≡ Client
   pub server : chart.to_server.to ≡ Server
   pub to_client : drawn_to Client chart.rows.items ++ waiting chart.to_client ≡ sent_to Client history

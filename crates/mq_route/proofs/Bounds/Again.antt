@@ -6,7 +6,7 @@ use Rattle.mq_wire.specs.Length.{length_bytes}
 use Rattle.mq_packet.specs.declared.packet.Packet.{Packet}
 use Rattle.mq_packet.specs.declared.packet.Packet.TheVariants as packets
 use Rattle.mq_packet.specs.Encoding.{fields, encoding, encodings}
-use Rattle.mq_flow.specs.declared.entry.Entry.{Entry}
+use Rattle.mq_flow.specs.declared.entry.SenderEntry.{SenderEntry}
 use Rattle.mq_flow.specs.Sender.{SenderBook, uses, publish_packet, resent}
 use Rattle.mq_flow.proofs.Books.{length_uses}
 use Rattle.mq_route.proofs.Bounds.Lengths.{joined_size, pubrel_size}
@@ -35,23 +35,23 @@ releases_size (i ∷ ids) =
     let parts = joined_size (packets.PubRel i ∷ []) (map packets.PubRel ids) in
     omega arith
 
-publishes_size : (limit : ℕ) (es : List Entry) → All (λ (x : Entry). length (fields (publish_packet x.id x.sent x.message)) ≤ limit) es
-    → length (encodings (map (λ (x : Entry). publish_packet x.id x.sent x.message) es)) ≤ length es * (5 + limit)
+publishes_size : (limit : ℕ) (es : List SenderEntry) → All (λ (x : SenderEntry). length (fields (publish_packet x.id x.sent x.message)) ≤ limit) es
+    → length (encodings (map (λ (x : SenderEntry). publish_packet x.id x.sent x.message) es)) ≤ length es * (5 + limit)
 publishes_size limit [] h = omega arith
 publishes_size limit (x ∷ xs) h =
-    let here = All-head (λ (x : Entry). length (fields (publish_packet x.id x.sent x.message)) ≤ limit) x xs h in
-    let rest = publishes_size limit xs (All-tail (λ (x : Entry). length (fields (publish_packet x.id x.sent x.message)) ≤ limit) x xs h) in
+    let here = All-head (λ (x : SenderEntry). length (fields (publish_packet x.id x.sent x.message)) ≤ limit) x xs h in
+    let rest = publishes_size limit xs (All-tail (λ (x : SenderEntry). length (fields (publish_packet x.id x.sent x.message)) ≤ limit) x xs h) in
     let one = encoding_size (publish_packet x.id x.sent x.message) in
-    let parts = length-append (encoding (publish_packet x.id x.sent x.message)) (encodings (map (λ (x : Entry). publish_packet x.id x.sent x.message) xs)) in
+    let parts = length-append (encoding (publish_packet x.id x.sent x.message)) (encodings (map (λ (x : SenderEntry). publish_packet x.id x.sent x.message) xs)) in
     omega arith
 
 in_all : (a r c limit : ℕ) → a * (5 + limit) + r * 4 ≤ (a + (r + c)) * (5 + limit)
 in_all a r c limit = omega arith
 
-pub again_size : (limit : ℕ) (b : SenderBook) → All (λ (x : Entry). length (fields (publish_packet x.id x.sent x.message)) ≤ limit) b.entries → length (encodings (resent b)) ≤ length (uses b) * (5 + limit)
+pub again_size : (limit : ℕ) (b : SenderBook) → All (λ (x : SenderEntry). length (fields (publish_packet x.id x.sent x.message)) ≤ limit) b.entries → length (encodings (resent b)) ≤ length (uses b) * (5 + limit)
 again_size limit b h =
     let used = ap (λ (n : ℕ). n * (5 + limit)) (length_uses b) in
-    let parts = joined_size (map packets.PubRel b.released) (map (λ (x : Entry). publish_packet x.id x.sent x.message) b.entries) in
+    let parts = joined_size (map packets.PubRel b.released) (map (λ (x : SenderEntry). publish_packet x.id x.sent x.message) b.entries) in
     let releases = releases_size b.released in
     let publishes = publishes_size limit b.entries h in
     let whole = in_all (length b.entries) (length b.released) (length b.claimed) limit in

@@ -19,7 +19,7 @@ use Rattle.mq_packet.specs.declared.packet.Packet.TheVariants as packets
 use Rattle.mq_packet.specs.declared.packet.Request.{Request}
 use Rattle.mq_packet.specs.declared.packet.SubAckCode.{SubAckCode}
 use Rattle.mq_packet.specs.Encoding.{fields, request_fields, code_fields, encoding, encodings}
-use Rattle.mq_flow.specs.declared.entry.Entry.{Entry}
+use Rattle.mq_flow.specs.declared.entry.SenderEntry.{SenderEntry}
 use Rattle.mq_flow.specs.Sender.{SenderBook, blank_book, is_awaited, publish_packet, resent}
 use Rattle.mq_flow.specs.Receiver.{is_new}
 use Rattle.mq_flow.specs.Window.{fits_window}
@@ -107,12 +107,12 @@ releases_none : (ids : List ℕ) (ps : List Packet) → filter is_answer (map pa
 releases_none [] ps = refl
 releases_none (i ∷ ids) ps = releases_none ids ps
 
-publishes_none : (es : List Entry) → filter is_answer (map (λ (x : Entry). publish_packet x.id x.sent x.message) es) ≡ []
+publishes_none : (es : List SenderEntry) → filter is_answer (map (λ (x : SenderEntry). publish_packet x.id x.sent x.message) es) ≡ []
 publishes_none [] = refl
 publishes_none (x ∷ xs) = publishes_none xs
 
 resent_none : (b : SenderBook) → filter is_answer (resent b) ≡ []
-resent_none b = releases_none b.released (map (λ (x : Entry). publish_packet x.id x.sent x.message) b.entries) ∙ publishes_none b.entries
+resent_none b = releases_none b.released (map (λ (x : SenderEntry). publish_packet x.id x.sent x.message) b.entries) ∙ publishes_none b.entries
 
 -- published packets are no answers
 pub published_none : (q : Qos) (i : ℕ) (m : Message) (e : End) → weight (publishes_at q i m e).out ≡ 0

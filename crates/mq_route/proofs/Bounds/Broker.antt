@@ -30,8 +30,8 @@ use Rattle.mq_route.specs.Routed.{same_conn}
 use Rattle.mq_route.specs.Copies.{kept, will_message}
 use Rattle.mq_route.specs.Hub.{HubConnection, is_connection, changed, with_connection, held_on, stage_of, up_on, end_of, with_end, copies_of, key_of}
 use Rattle.mq_route.specs.Welcome.{client_of, ends_with, refusal}
-use Rattle.mq_route.specs.Work.{Work, said, with_connections, with_sessions, staged, shut, put_on, put_where, does, publishes_next, is_missed, place, place_all, have_room, deliver, remove, last_will, will_after, remove_if, leaves_behind, shut_down, close, subscribed, unsubscribed, retained_copies}
-use Rattle.mq_route.specs.Arrives.{Growth, due, granted, answers, answers_all, replies, greeting, terms_of, resume_session, new_session, start_session, take_over, goes_on, accept_connect, on_connect, on_first_packet, on_passed_packet, is_too_broad, dispatch_packet, touched, touched_on, arrives, takes}
+use Rattle.mq_route.specs.Work.{Work, said, with_connections, with_sessions, staged, shut, put_on, put_where, does, publishes_next, is_missed, enqueue, enqueue_all, have_room, deliver, remove, last_will, will_after, remove_if, leaves_behind, shut_down, close, subscribed, unsubscribed, retained_copies}
+use Rattle.mq_route.specs.Arrives.{Growth, due, granted, answers, answers_all, replies, greeting, terms_of, resume_session, new_session, start_session, take_over, goes_on, accept_connect, on_connect, on_first_packet, on_passed_packet, is_too_broad, dispatch_packet, touched, touched_on, arrives, on_packet}
 use Rattle.mq_route.specs.Bounds.Broker.{is_answer, answers_in}
 use Rattle.mq_route.proofs.Bounds.Lengths.{connack_size}
 use Rattle.mq_route.proofs.Bounds.Packets.{connect_size}
@@ -129,8 +129,8 @@ module _ (k : Conn) where
 
   -- ---- placed messages
 
-  place_spends : (key : ℕ) (m : Message) (w : Work) → Spends 0 w (place key m w)
-  unfolding place
+  place_spends : (key : ℕ) (m : Message) (w : Work) → Spends 0 w (enqueue key m w)
+  unfolding enqueue
   place_spends key m w =
       let e = end_of key w.hub.sessions in
       let a = does_spends key (publishes_next m) w in
@@ -138,9 +138,9 @@ module _ (k : Conn) where
       cond_both (is_missed key m w.hub) (said (acts.Missed key m) w) (said (acts.Placed key m) (does key (publishes_next m) w)) (Spends 0 w)
       (λ is. record { out = omega arith; held = inl refl }) (λ is. record { out = let x = a.out in omega arith; held = a.held })
 
-  place_all_spends : (copies : List (ℕ × Message)) (w : Work) → Spends 0 w (place_all copies w)
+  place_all_spends : (copies : List (ℕ × Message)) (w : Work) → Spends 0 w (enqueue_all copies w)
   place_all_spends [] w = still w
-  place_all_spends (x ∷ xs) w = then_ 0 0 w (place x.0 x.1 w) (place_all xs (place x.0 x.1 w)) (place_spends x.0 x.1 w) (place_all_spends xs (place x.0 x.1 w))
+  place_all_spends (x ∷ xs) w = then_ 0 0 w (enqueue x.0 x.1 w) (enqueue_all xs (enqueue x.0 x.1 w)) (place_spends x.0 x.1 w) (place_all_spends xs (enqueue x.0 x.1 w))
 
   share_spends : (act : Act) (m : Message) (w : Work) → Spends 0 w (deliver act m w)
   unfolding deliver
@@ -204,8 +204,8 @@ module _ (k : Conn) where
       let v = subscribed key requests w in
       let u = does key (subacks i (granted requests)) v in
       let a = then_ 0 (weight (packets.SubAck i (granted requests) ∷ [])) w v u (subscribed_spends key requests w) (does_spends key (subacks i (granted requests)) v) in
-      let b = then_ (0 + weight (packets.SubAck i (granted requests) ∷ [])) 0 w u (place_all (retained_copies key requests w.hub.retained) u) a (place_all_spends (retained_copies key requests w.hub.retained) u) in
-      more ((0 + weight (packets.SubAck i (granted requests) ∷ [])) + 0) (weight (packets.SubAck i (granted requests) ∷ [])) w (place_all (retained_copies key requests w.hub.retained) u) (omega arith) b
+      let b = then_ (0 + weight (packets.SubAck i (granted requests) ∷ [])) 0 w u (enqueue_all (retained_copies key requests w.hub.retained) u) a (place_all_spends (retained_copies key requests w.hub.retained) u) in
+      more ((0 + weight (packets.SubAck i (granted requests) ∷ [])) + 0) (weight (packets.SubAck i (granted requests) ∷ [])) w (enqueue_all (retained_copies key requests w.hub.retained) u) (omega arith) b
   answers_spends j key (happens.Unsubscribe i filters) w =
       let v = unsubscribed key filters w in
       let a = then_ 0 (weight (packets.UnsubAck i ∷ [])) w v (does key (unsubacks i) v) (unsubscribed_spends key filters w) (does_spends key (unsubacks i) v) in
@@ -318,6 +318,6 @@ module _ (k : Conn) where
       (then_ 0 n w v u (lines_spend (λ x. record x { stage = touched w.hub.clock x.stage }) j w (λ x. refl) (λ x. inl refl)) (comes_in_spends j p g.will_fits (stage_of j w.hub.connections) v)))
       (λ f. more 0 n w (close j (Own reasons.Memory) g.will_fits w) (omega arith) (close_spends j (Own reasons.Memory) g.will_fits w))
 
-  pub takes_spends : (j : Conn) (p : Packet) (g : Growth) (w : Work) → Spends (2 + length (fields p)) w (takes j p g w)
-  unfolding takes
+  pub takes_spends : (j : Conn) (p : Packet) (g : Growth) (w : Work) → Spends (2 + length (fields p)) w (on_packet j p g w)
+  unfolding on_packet
   takes_spends j p g w = let a = arrives_spends j p g w in record { out = a.out; held = a.held }

@@ -19,8 +19,8 @@ use Rattle.mq_route.specs.declared.close.HubClose.TheVariants.{Own}
 use Rattle.mq_route.specs.declared.conn.Conn.{Conn}
 use Rattle.mq_route.specs.Hub.{HubState, HubConnection, is_connection, with_connection, held_on, stage_of, end_on}
 use Rattle.mq_route.specs.Work.{Work, begin, put_on, close}
-use Rattle.mq_route.specs.Arrives.{takes, closes_by, broken, on_malformed}
-use Rattle.mq_route.specs.Step.{Comes, Arrives, Waits, Breaks, Starves, LetsGo, holding}
+use Rattle.mq_route.specs.Arrives.{on_packet, closes_by, broken, on_malformed}
+use Rattle.mq_route.specs.Step.{OnBytes, Arrives, Waits, Breaks, Starves, LetsGo, holding}
 use Rattle.mq_route.specs.Bounds.Broker.{BrokerBounds}
 use Rattle.mq_route.proofs.Bounds.Lengths.{read_size, connack_size}
 use Rattle.mq_route.proofs.Bounds.Faults.{level_size}
@@ -74,11 +74,11 @@ lets_nothing a b none (inl same) = same ∙ none
 lets_nothing a b none (inr nothing) = nothing
 
 -- bytes on a connection that holds none
-comes_within : (limit : Bounds) (k : Conn) (b : List ℕ) (w v : Work) → held_on k w.hub.connections ≡ [] → Comes limit k b w v → written k v + length (held_on k v.hub.connections) ≤ written k w + length b
+comes_within : (limit : Bounds) (k : Conn) (b : List ℕ) (w v : Work) → held_on k w.hub.connections ≡ [] → OnBytes limit k b w v → written k v + length (held_on k v.hub.connections) ≤ written k w + length b
 comes_within limit k b w v none (Arrives p first rest g w2 v2 here reads later) =
     let a = takes_spends k k p g w in
     let size = read_size limit.lenient p first reads.0 in
-    let all = comes_within limit k rest (takes k p g w) v (lets_nothing (held_on k w.hub.connections) (held_on k (takes k p g w).hub.connections) none a.held) later in
+    let all = comes_within limit k rest (on_packet k p g w) v (lets_nothing (held_on k w.hub.connections) (held_on k (on_packet k p g w).hub.connections) none a.held) later in
     let parts = length-append first rest in
     let out = a.out in
     omega arith
@@ -106,9 +106,9 @@ waits_held : PendingIsShort → (limit : Bounds) (b c : List ℕ) → AreBytes b
 waits_held short limit b c bytes pending (inl same) = (subst AreBytes (sym same) bytes, let size = ap length same in let few = short limit b bytes pending in omega arith)
 waits_held short limit b c bytes pending (inr none) = nothing_held limit c none
 
-comes_held : PendingIsShort → (limit : Bounds) (k : Conn) (b : List ℕ) (w v : Work) → AreBytes b → held_on k w.hub.connections ≡ [] → Comes limit k b w v → HeldWithin limit (held_on k v.hub.connections)
+comes_held : PendingIsShort → (limit : Bounds) (k : Conn) (b : List ℕ) (w v : Work) → AreBytes b → held_on k w.hub.connections ≡ [] → OnBytes limit k b w v → HeldWithin limit (held_on k v.hub.connections)
 comes_held short limit k b w v bytes none (Arrives p first rest g w2 v2 here reads later) =
-    comes_held short limit k rest (takes k p g w) v (AreBytes-rest first rest bytes) (lets_nothing (held_on k w.hub.connections) (held_on k (takes k p g w).hub.connections) none (takes_spends k k p g w).held) later
+    comes_held short limit k rest (on_packet k p g w) v (AreBytes-rest first rest bytes) (lets_nothing (held_on k w.hub.connections) (held_on k (on_packet k p g w).hub.connections) none (takes_spends k k p g w).held) later
 comes_held short limit k b w v bytes none (Waits b2 w2 here pending) = waits_held short limit b (held_on k (holding k b w).hub.connections) bytes pending (holds k b w.hub.connections)
 comes_held short limit k b w v bytes none (Breaks b2 fault fits w2 here bad) =
     nothing_held limit (held_on k (on_malformed k fault fits w).hub.connections) (lets_nothing (held_on k w.hub.connections) (held_on k (on_malformed k fault fits w).hub.connections) none (breaks_spends limit b k fault fits w bad).held)

@@ -16,7 +16,7 @@ use Rattle.mq_end.specs.declared.reason.CloseReason.{CloseReason}
 use Rattle.mq_end.specs.declared.reason.CloseReason.TheVariants as reasons
 use Rattle.mq_end.specs.End.{End, Reply, silent, closes, followed, one_by_one}
 use Rattle.mq_end.specs.Receiving.{Ending, Waits, Closes, Breaks, Starves, Receives}
-use Rattle.mq_route.specs.Bounds.Costs.{rises, sent_again}
+use Rattle.mq_route.specs.Bounds.Costs.{has_up_event, sent_again}
 use Rattle.mq_route.proofs.Bounds.Lengths.{joined_size}
 use Rattle.mq_route.proofs.Bounds.Rises.{is_open}
 use Rattle.mq_route.proofs.Bounds.Stored.{over_stores}
@@ -30,9 +30,9 @@ not_both o reason h k =
 -- ---- output
 
 -- a reply within bytes, followed by one without reports
-after_out : (s t : Reply) (front rest : List ℕ) (book : SenderBook) → rises t.happenings ≡ false → length (encodings t.out) ≤ length rest
-    → length (encodings s.out) ≤ length front + length (sent_again (rises s.happenings) book)
-    → length (encodings (followed s t).out) ≤ (length front + length rest) + length (sent_again (rises (followed s t).happenings) book)
+after_out : (s t : Reply) (front rest : List ℕ) (book : SenderBook) → has_up_event t.happenings ≡ false → length (encodings t.out) ≤ length rest
+    → length (encodings s.out) ≤ length front + length (sent_again (has_up_event s.happenings) book)
+    → length (encodings (followed s t).out) ≤ (length front + length rest) + length (sent_again (has_up_event (followed s t).happenings) book)
 after_out s t front rest book quiet few before =
     let parts = joined_size s.out t.out in
     let same = ap (λ (b : Bool). length (sent_again b book)) (told_after s.happenings t.happenings quiet) in
@@ -40,10 +40,10 @@ after_out s t front rest book quiet few before =
 
 -- the output and the held bytes are within the incoming bytes and the retransmissions
 abbrev pub AllWithin : List ℕ → List ℕ → SenderBook → List ℕ → Reply → Type 0
-AllWithin front rest book held r = length (encodings r.out) + length held ≤ (length front + length rest) + length (sent_again (rises r.happenings) book)
+AllWithin front rest book held r = length (encodings r.out) + length held ≤ (length front + length rest) + length (sent_again (has_up_event r.happenings) book)
 
 ending_out : (refusal : ℕ) (faulted : DecodeFault → End → Reply) → BreaksOff refusal faulted → (limit : Bounds) (s : Reply) (front rest : List ℕ) (book : SenderBook) (r : Reply) (held : List ℕ)
-    → length (encodings s.out) ≤ length front + length (sent_again (rises s.happenings) book) → Ending limit faulted s rest r held → AllWithin front rest book held r
+    → length (encodings s.out) ≤ length front + length (sent_again (has_up_event s.happenings) book) → Ending limit faulted s rest r held → AllWithin front rest book held r
 ending_out refusal faulted on_malformed limit s front rest book r held before (Waits pending none same is_held) =
     subst (AllWithin front rest book held) (sym same) (let size = ap length is_held in omega arith)
 ending_out refusal faulted on_malformed limit s front rest book r held before (Closes reason closed same is_held) =
@@ -60,7 +60,7 @@ ending_out refusal faulted on_malformed limit s front rest book r held before (S
     omega arith)
 
 pub received_out : (refusal : ℕ) (gets : Packet → End → Reply) (faulted : DecodeFault → End → Reply) → Does refusal gets → BreaksOff refusal faulted → (limit : Bounds) (b : List ℕ) (e : End) (r : Reply) (held : List ℕ)
-    → (h : Receives limit gets faulted b e r held) → length (encodings r.out) + length held ≤ length b + length (sent_again (rises r.happenings) (first_book h.packets e.book))
+    → (h : Receives limit gets faulted b e r held) → length (encodings r.out) + length held ≤ length b + length (sent_again (has_up_event r.happenings) (first_book h.packets e.book))
 received_out refusal gets faulted does on_malformed limit b e r held h =
     let all = ending_out refusal faulted on_malformed limit (one_by_one gets h.packets e) h.front h.rest (first_book h.packets e.book) r held (all_out refusal gets does limit h.packets h.front e h.stream) h.ending in
     let whole = ap length h.parts ∙ length-append h.front h.rest in
@@ -69,14 +69,14 @@ received_out refusal gets faulted does on_malformed limit b e r held h =
 -- ---- an end that connects
 
 pub ending_quiet : (refusal : ℕ) (faulted : DecodeFault → End → Reply) → BreaksOff refusal faulted → (limit : Bounds) (s : Reply) (rest : List ℕ) (r : Reply) (held : List ℕ)
-    → Ending limit faulted s rest r held → rises r.happenings ≡ rises s.happenings
-ending_quiet refusal faulted on_malformed limit s rest r held (Waits pending none same is_held) = ap (λ (t : Reply). rises t.happenings) same
-ending_quiet refusal faulted on_malformed limit s rest r held (Closes reason closed same is_held) = ap (λ (t : Reply). rises t.happenings) same
-ending_quiet refusal faulted on_malformed limit s rest r held (Breaks fault bad none same is_held) = ap (λ (t : Reply). rises t.happenings) same ∙ told_after s.happenings (faulted fault s.end).happenings (on_malformed.quiet fault s.end)
-ending_quiet refusal faulted on_malformed limit s rest r held (Starves more none same is_held) = ap (λ (t : Reply). rises t.happenings) same ∙ told_after s.happenings [] refl
+    → Ending limit faulted s rest r held → has_up_event r.happenings ≡ has_up_event s.happenings
+ending_quiet refusal faulted on_malformed limit s rest r held (Waits pending none same is_held) = ap (λ (t : Reply). has_up_event t.happenings) same
+ending_quiet refusal faulted on_malformed limit s rest r held (Closes reason closed same is_held) = ap (λ (t : Reply). has_up_event t.happenings) same
+ending_quiet refusal faulted on_malformed limit s rest r held (Breaks fault bad none same is_held) = ap (λ (t : Reply). has_up_event t.happenings) same ∙ told_after s.happenings (faulted fault s.end).happenings (on_malformed.quiet fault s.end)
+ending_quiet refusal faulted on_malformed limit s rest r held (Starves more none same is_held) = ap (λ (t : Reply). has_up_event t.happenings) same ∙ told_after s.happenings [] refl
 
 pub received_once : (refusal : ℕ) (gets : Packet → End → Reply) (faulted : DecodeFault → End → Reply) → Does refusal gets → BreaksOff refusal faulted → (limit : Bounds) (b : List ℕ) (e : End) (r : Reply) (held : List ℕ)
-    → Receives limit gets faulted b e r held → rises r.happenings ≡ true → e.state ≡ Connecting
+    → Receives limit gets faulted b e r held → has_up_event r.happenings ≡ true → e.state ≡ Connecting
 received_once refusal gets faulted does on_malformed limit b e r held h up = by e.state refl
   where
     none : is_open e.state ≡ false → ⊥
@@ -154,7 +154,7 @@ ending_stayed refusal gets faulted on_malformed limit s rest e r held (Closed re
 ending_stayed refusal gets faulted on_malformed limit s rest e r held (Closed reason closed shut few) (Starves more none same is_held) = absurd (not_both s.close reason none closed)
 
 pub received_stayed : (refusal : ℕ) (gets : Packet → End → Reply) (faulted : DecodeFault → End → Reply) → Does refusal gets → BreaksOff refusal faulted → (limit : Bounds) (b : List ℕ) (e : End) (r : Reply) (held : List ℕ)
-    → Receives limit gets faulted b e r held → e.state ≡ Connecting → rises r.happenings ≡ false → Stayed refusal e r held
+    → Receives limit gets faulted b e r held → e.state ≡ Connecting → has_up_event r.happenings ≡ false → Stayed refusal e r held
 received_stayed refusal gets faulted does on_malformed limit b e r held h waits quiet =
     let s : Reply = one_by_one gets h.packets e in
     ending_stayed refusal gets faulted on_malformed limit s h.rest e r held

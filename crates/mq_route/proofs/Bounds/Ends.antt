@@ -22,7 +22,7 @@ use Rattle.mq_end.specs.Server.{server_gets, level_refused}
 use Rattle.mq_end.specs.State.{EndState, PutsOut, is_level, client_faulted, server_faulted}
 use Rattle.mq_end.specs.Receiving.{Receives, Shows, ClientTakes, TakesOne, held_after}
 use Rattle.mq_end.specs.Laws.{ClosingLaws, WindowLaws, KeepsWindow}
-use Rattle.mq_route.specs.Bounds.Costs.{rises, book_for, sent_again, kept}
+use Rattle.mq_route.specs.Bounds.Costs.{has_up_event, book_for, sent_again, kept}
 use Rattle.mq_route.specs.Bounds.Waiting.{WaitsOn, Hears, Ignores, WaitsThrough}
 use Rattle.mq_route.specs.Bounds.Ends.{PacketBounds, Connects, ReceiveBounds, TakeBounds, BoundsLaws}
 use Rattle.mq_route.proofs.Bounds.Again.{again_size}
@@ -64,8 +64,8 @@ server_breaks = record { quiet = quiet; closed = closed; short = short; refused 
     answered : DecodeFault → End → Bool
     answered fault e = not (is_up e.state) && is_level fault.kind
 
-    quiet : (fault : DecodeFault) (e : End) → rises (server_faulted fault e).happenings ≡ false
-    quiet fault e = cond_both (not (is_up e.state) && is_level fault.kind) (level_refused e) (closes (reasons.Fault fault) e) (λ r. rises r.happenings ≡ false) (λ t. refl) (λ f. refl)
+    quiet : (fault : DecodeFault) (e : End) → has_up_event (server_faulted fault e).happenings ≡ false
+    quiet fault e = cond_both (not (is_up e.state) && is_level fault.kind) (level_refused e) (closes (reasons.Fault fault) e) (λ r. has_up_event r.happenings ≡ false) (λ t. refl) (λ f. refl)
 
     closed : (fault : DecodeFault) (e : End) → (server_faulted fault e).end.state ≡ Disconnected
     closed fault e = cond_both (not (is_up e.state) && is_level fault.kind) (level_refused e) (closes (reasons.Fault fault) e) (λ r. r.end.state ≡ Disconnected) (λ t. refl) (λ f. refl)
@@ -111,26 +111,26 @@ joined_bytes (x ∷ a) b h k (suc i) = joined_bytes a b (λ j. h (suc j)) k i
 
 grown : (refusal : ℕ) (gets : Packet → End → Reply) (faulted : DecodeFault → End → Reply) → Given refusal gets faulted
     → (piece : List ℕ) (old new : EndState) (happenings : List Happening) (acknowledged : List ℕ) (closed : Option CloseReason) → (h : ReceivesBy gets faulted piece old new happenings acknowledged closed)
-    → (b : Bool) → rises happenings ≡ b → kept new ≤ (kept old + length piece) + length (sent_again b (first_book h.1.packets old.end.book))
+    → (b : Bool) → has_up_event happenings ≡ b → kept new ≤ (kept old + length piece) + length (sent_again b (first_book h.1.packets old.end.book))
 grown refusal gets faulted g piece old new happenings acknowledged closed h b up =
     let all = received_out refusal gets faulted g.does g.on_malformed old.limit (old.held ++ piece) old.end h.0 new.held h.1 in
     let put = put_size g.encoding h.0.out old.output new.output h.2.out in
     let parts = length-append old.held piece in
-    let same = ap (λ (c : Bool). length (sent_again c (first_book h.1.packets old.end.book))) (sym (ap rises h.2.told) ∙ up) in
+    let same = ap (λ (c : Bool). length (sent_again c (first_book h.1.packets old.end.book))) (sym (ap has_up_event h.2.told) ∙ up) in
     omega arith
 
 -- the first packet is the one that connects an end
 connects : (refusal : ℕ) (gets : Packet → End → Reply) (faulted : DecodeFault → End → Reply) → Given refusal gets faulted
     → (piece : List ℕ) (old new : EndState) (happenings : List Happening) (acknowledged : List ℕ) (closed : Option CloseReason) → (h : ReceivesBy gets faulted piece old new happenings acknowledged closed)
-    → rises happenings ≡ true → Connects piece old new
+    → has_up_event happenings ≡ true → Connects piece old new
 connects refusal gets faulted g piece old new happenings acknowledged closed h up = by h.1.packets refl h.1.stream
   where
-    quiet : rises (one_by_one gets h.1.packets old.end).happenings ≡ true
+    quiet : has_up_event (one_by_one gets h.1.packets old.end).happenings ≡ true
     quiet =
-        sym (ending_quiet refusal faulted g.on_malformed old.limit (one_by_one gets h.1.packets old.end) h.1.rest h.0 new.held h.1.ending) ∙ (sym (ap rises h.2.told) ∙ up)
+        sym (ending_quiet refusal faulted g.on_malformed old.limit (one_by_one gets h.1.packets old.end) h.1.rest h.0 new.held h.1.ending) ∙ (sym (ap has_up_event h.2.told) ∙ up)
 
     by : (ps : List Packet) → h.1.packets ≡ ps → Stream old.limit ps h.1.front → Connects piece old new
-    by [] none stream = absurd (let e : false ≡ true = sym (ap (λ (ps : List Packet). rises (one_by_one gets ps old.end).happenings) none) ∙ quiet in cc)
+    by [] none stream = absurd (let e : false ≡ true = sym (ap (λ (ps : List Packet). has_up_event (one_by_one gets ps old.end).happenings) none) ∙ quiet in cc)
     by (p ∷ ps) is stream = record {
       first = p;
       front = stream.0;
@@ -162,9 +162,9 @@ live st is h = let e : true ≡ false = sym (ap is_live is) ∙ h in cc
 
 touched : (refusal : ℕ) (gets : Packet → End → Reply) (faulted : DecodeFault → End → Reply) → Given refusal gets faulted → (limit : Bounds)
     → (piece : List ℕ) (old new : EndState) (happenings : List Happening) (acknowledged : List ℕ) (closed : Option CloseReason) → ReceivesBy gets faulted piece old new happenings acknowledged closed
-    → AreBytes piece → rises happenings ≡ false → new.limit ≡ old.limit → old.end.state ≡ Connecting → old.output ≡ [] → AreBytes old.held → old.limit ≡ limit → Waiting refusal limit new
+    → AreBytes piece → has_up_event happenings ≡ false → new.limit ≡ old.limit → old.end.state ≡ Connecting → old.output ≡ [] → AreBytes old.held → old.limit ≡ limit → Waiting refusal limit new
 touched refusal gets faulted g limit piece old new happenings acknowledged closed h bytes quiet same waits nothing held is =
-    by (received_stayed refusal gets faulted g.does g.on_malformed old.limit (old.held ++ piece) old.end h.0 new.held h.1 waits (sym (ap rises h.2.told) ∙ quiet))
+    by (received_stayed refusal gets faulted g.does g.on_malformed old.limit (old.held ++ piece) old.end h.0 new.held h.1 waits (sym (ap has_up_event h.2.told) ∙ quiet))
   where
     by : Stayed refusal old.end h.0 new.held → Waiting refusal limit new
     by (StaysOpen still) =
@@ -201,12 +201,12 @@ receive_bounds refusal gets faulted g = record {
   grows = λ c quiet. let all = grown refusal gets faulted g c.piece c.old c.new c.happenings c.acknowledged c.closed c.received false quiet in omega arith;
   comes_up = λ c up. connects refusal gets faulted g c.piece c.old c.new c.happenings c.acknowledged c.closed c.received up;
   once = λ c up.
-      received_once refusal gets faulted g.does g.on_malformed c.old.limit (c.old.held ++ c.piece) c.old.end c.received.0 c.new.held c.received.1 (sym (ap rises c.received.2.told) ∙ up);
+      received_once refusal gets faulted g.does g.on_malformed c.old.limit (c.old.held ++ c.piece) c.old.end c.received.0 c.new.held c.received.1 (sym (ap has_up_event c.received.2.told) ∙ up);
   waits = λ c is.
       let still = received_still refusal gets faulted g.does g.on_malformed c.old.limit (c.old.held ++ c.piece) c.old.end c.received.0 c.new.held c.received.1 (sym (ap (λ (e : End). e.state) c.received.2.after) ∙ is) in
       (still.before, still_output c.received.0.out c.old.output c.new.output (ap (λ (r : Reply). r.out) still.nothing) c.received.2.out);
   refuses = λ c is quiet.
-      refused_output c.old.end c.received.0 c.new.held c.old.output c.new.output (received_stayed refusal gets faulted g.does g.on_malformed c.old.limit (c.old.held ++ c.piece) c.old.end c.received.0 c.new.held c.received.1 is (sym (ap rises c.received.2.told) ∙ quiet))
+      refused_output c.old.end c.received.0 c.new.held c.old.output c.new.output (received_stayed refusal gets faulted g.does g.on_malformed c.old.limit (c.old.held ++ c.piece) c.old.end c.received.0 c.new.held c.received.1 is (sym (ap has_up_event c.received.2.told) ∙ quiet))
       (put_size g.encoding c.received.0.out c.old.output c.new.output c.received.2.out);
   held = λ c before bytes.
       received_held g.short gets faulted c.old.limit (c.old.held ++ c.piece) c.old.end c.received.0 c.new.held c.received.1 (joined_bytes c.old.held c.piece before bytes);
@@ -232,11 +232,11 @@ shut_holds (Some reason) held = omega arith
 
 taken : EncodingLaws → (gets : Packet → End → Reply) → ((p : Packet) (e : End) → OutWithin (2 + length (fields p)) (book_for p e.book) (gets p e)) → (lenient : Bool) (p : Packet) (b : List ℕ) (old new : EndState) (happenings : List Happening) (reply : Reply)
     → Reads lenient p b → (reply ≡ gets p old.end) ⊎ (reply ≡ closes reasons.Memory old.end) → PutsOut reply.out old.output new.output → happenings ≡ reply.happenings → new.held ≡ held_after reply.close old.held
-    → kept new ≤ (kept old + length b) + length (sent_again (rises happenings) (book_for p old.end.book))
+    → kept new ≤ (kept old + length b) + length (sent_again (has_up_event happenings) (book_for p old.end.book))
 taken encoding gets answer lenient p b old new happenings reply reads does out told held =
     let put = put_size encoding reply.out old.output new.output out in
     let few = by does in
-    let same = ap (λ (hs : List Happening). length (sent_again (rises hs) (book_for p old.end.book))) told in
+    let same = ap (λ (hs : List Happening). length (sent_again (has_up_event hs) (book_for p old.end.book))) told in
     let left = ap length held in
     let less = shut_holds reply.close old.held in
     omega arith

@@ -22,16 +22,16 @@ use Rattle.mq_end.specs.declared.state.State.{State}
 use Rattle.mq_end.specs.declared.state.State.TheVariants.{Disconnected, Connecting, Connected}
 use Rattle.mq_end.specs.declared.happening.Happening.TheVariants as happens
 use Rattle.mq_end.specs.declared.reason.CloseReason.TheVariants as reasons
-use Rattle.mq_end.specs.End.{End, Reply, tells, closes, comes_up}
+use Rattle.mq_end.specs.End.{End, Reply, reports_event, closes, becomes_connected}
 use Rattle.mq_end.specs.Both.{stores, publish_gets, flow_gets}
 use Rattle.mq_end.specs.Client.{connack_gets, client_open_gets, client_up_gets, client_gets_in, client_gets}
 use Rattle.mq_end.specs.Server.{connect_gets, refuses, server_open_gets, server_up_gets, server_gets_in, server_gets}
-use Rattle.mq_route.specs.Bounds.Costs.{rises, book_for, sent_again}
+use Rattle.mq_route.specs.Bounds.Costs.{has_up_event, book_for, sent_again}
 use Rattle.mq_route.proofs.Bounds.Lengths.{connack_size, puback_size, pubrec_size, pubrel_size, pubcomp_size, pingresp_size, joined_size}
 
 -- the reply sends at most n bytes, without retransmissions
 abbrev pub OutWithin : ℕ → SenderBook → Reply → Type 0
-OutWithin n book r = length (encodings r.out) ≤ n + length (sent_again (rises r.happenings) book)
+OutWithin n book r = length (encodings r.out) ≤ n + length (sent_again (has_up_event r.happenings) book)
 
 -- ---- messages and their acknowledgements
 
@@ -64,7 +64,7 @@ connack_out : (a : ConnAck) (e : End) (n : ℕ) → OutWithin n e.book (connack_
 connack_out (connacks.Refused code) e n = omega arith
 connack_out (connacks.Accepted present) e n =
     cond_both (e.clean && present) (closes reasons.Unexpected e) _ (OutWithin n e.book) (λ t. omega arith)
-    (λ f. cond_both (not e.clean && (e.known && not present)) (closes reasons.SessionLost e) (comes_up [] present e) (OutWithin n e.book) (λ t. omega arith) (λ f. omega arith))
+    (λ f. cond_both (not e.clean && (e.known && not present)) (closes reasons.SessionLost e) (becomes_connected [] present e) (OutWithin n e.book) (λ t. omega arith) (λ f. omega arith))
 
 client_open_out : (p : Packet) (e : End) (n : ℕ) → OutWithin n (book_for p e.book) (client_open_gets p e)
 client_open_out (packets.ConnAck a) e n = connack_out a e n
@@ -72,9 +72,9 @@ client_open_out p e n = omega arith
 
 client_up_out : (p : Packet) (e : End) → OutWithin (2 + length (fields p)) (book_for p e.book) (client_up_gets p e)
 client_up_out (packets.SubAck i codes) e =
-    cond_both (awaits_suback i (length codes) e.book) (tells (happens.SubAck i codes) (record e { book = release i e.book })) (closes reasons.Unexpected e) (OutWithin (2 + length (fields (packets.SubAck i codes))) e.book) (λ t. omega arith) (λ f. omega arith)
+    cond_both (awaits_suback i (length codes) e.book) (reports_event (happens.SubAck i codes) (record e { book = release i e.book })) (closes reasons.Unexpected e) (OutWithin (2 + length (fields (packets.SubAck i codes))) e.book) (λ t. omega arith) (λ f. omega arith)
 client_up_out (packets.UnsubAck i) e =
-    cond_both (awaits_unsuback i e.book) (tells (happens.UnsubAck i) (record e { book = release i e.book })) (closes reasons.Unexpected e) (OutWithin 4 e.book) (λ t. omega arith) (λ f. omega arith)
+    cond_both (awaits_unsuback i e.book) (reports_event (happens.UnsubAck i) (record e { book = release i e.book })) (closes reasons.Unexpected e) (OutWithin 4 e.book) (λ t. omega arith) (λ f. omega arith)
 client_up_out packets.PingResp e = omega arith
 client_up_out p e = flow_out p e
 

@@ -21,11 +21,11 @@ use Rattle.mq_end.specs.declared.state.State.TheVariants.{Disconnected, Connecti
 use Rattle.mq_end.specs.declared.happening.Happening.TheVariants as happens
 use Rattle.mq_end.specs.declared.reason.CloseReason.{CloseReason}
 use Rattle.mq_end.specs.declared.reason.CloseReason.TheVariants as reasons
-use Rattle.mq_end.specs.End.{End, Reply, tells, closes, comes_up}
+use Rattle.mq_end.specs.End.{End, Reply, reports_event, closes, becomes_connected}
 use Rattle.mq_end.specs.Both.{stores, publish_gets, flow_gets}
 use Rattle.mq_end.specs.Client.{connack_gets, client_open_gets, client_up_gets, client_gets_in, client_gets}
 use Rattle.mq_end.specs.Server.{connect_gets, refuses, server_open_gets, server_up_gets, server_gets_in, server_gets}
-use Rattle.mq_route.specs.Bounds.Costs.{rises}
+use Rattle.mq_route.specs.Bounds.Costs.{has_up_event}
 use Rattle.mq_route.proofs.Bounds.Lengths.{connack_size}
 
 -- the end waits for CONNECT or CONNACK (3.1, 3.2)
@@ -36,24 +36,24 @@ is_open Connected = false
 
 -- the reply doesn't connect the end, and the end doesn't wait afterwards
 pub record IsCalm (r : Reply) : Type 0 where
-  pub quiet : rises r.happenings ≡ false
+  pub quiet : has_up_event r.happenings ≡ false
   pub gone : is_open r.end.state ≡ false
 
 -- A waiting end stops waiting at a packet. If it does not connect, it closes and sends at most a
 -- refusal.
 pub record Opens (refusal : ℕ) (r : Reply) : Type 0 where
   pub gone : is_open r.end.state ≡ false
-  pub shut : rises r.happenings ≡ false → (reason : CloseReason) × (r.close ≡ Some reason) × (r.end.state ≡ Disconnected) × (length (encodings r.out) ≤ refusal)
+  pub shut : has_up_event r.happenings ≡ false → (reason : CloseReason) × (r.close ≡ Some reason) × (r.end.state ≡ Disconnected) × (length (encodings r.out) ≤ refusal)
 
 -- ---- a connected end
 
-calm : (r : Reply) (e : End) → r.end.state ≡ e.state → is_open e.state ≡ false → rises r.happenings ≡ false → IsCalm r
+calm : (r : Reply) (e : End) → r.end.state ≡ e.state → is_open e.state ≡ false → has_up_event r.happenings ≡ false → IsCalm r
 calm r e same not_open quiet = record { quiet = quiet; gone = ap is_open same ∙ not_open }
 
 calm_closes : (reason : CloseReason) (e : End) → IsCalm (closes reason e)
 calm_closes reason e = record { quiet = refl; gone = refl }
 
-handed : (b : Bool) (m : Message) → rises (cond b (happens.Handed m ∷ []) []) ≡ false
+handed : (b : Bool) (m : Message) → has_up_event (cond b (happens.Handed m ∷ []) []) ≡ false
 handed true m = refl
 handed false m = refl
 
@@ -74,11 +74,11 @@ flow_calm p e h = calm_closes reasons.Unexpected e
 
 client_up_calm : (p : Packet) (e : End) → is_open e.state ≡ false → IsCalm (client_up_gets p e)
 client_up_calm (packets.SubAck i codes) e h =
-    cond_both (awaits_suback i (length codes) e.book) (tells (happens.SubAck i codes) (record e { book = release i e.book })) (closes reasons.Unexpected e) IsCalm
-    (λ t. calm (tells (happens.SubAck i codes) (record e { book = release i e.book })) e refl h refl) (λ f. calm_closes reasons.Unexpected e)
+    cond_both (awaits_suback i (length codes) e.book) (reports_event (happens.SubAck i codes) (record e { book = release i e.book })) (closes reasons.Unexpected e) IsCalm
+    (λ t. calm (reports_event (happens.SubAck i codes) (record e { book = release i e.book })) e refl h refl) (λ f. calm_closes reasons.Unexpected e)
 client_up_calm (packets.UnsubAck i) e h =
-    cond_both (awaits_unsuback i e.book) (tells (happens.UnsubAck i) (record e { book = release i e.book })) (closes reasons.Unexpected e) IsCalm
-    (λ t. calm (tells (happens.UnsubAck i) (record e { book = release i e.book })) e refl h refl) (λ f. calm_closes reasons.Unexpected e)
+    cond_both (awaits_unsuback i e.book) (reports_event (happens.UnsubAck i) (record e { book = release i e.book })) (closes reasons.Unexpected e) IsCalm
+    (λ t. calm (reports_event (happens.UnsubAck i) (record e { book = release i e.book })) e refl h refl) (λ f. calm_closes reasons.Unexpected e)
 client_up_calm packets.PingResp e h = calm _ e refl h refl
 client_up_calm p e h = flow_calm p e h
 
@@ -117,7 +117,7 @@ connack_opens : (a : ConnAck) (e : End) → Opens 0 (connack_gets a e)
 connack_opens (connacks.Refused code) e = shuts 0 (reasons.Refused code) e
 connack_opens (connacks.Accepted present) e =
     cond_both (e.clean && present) (closes reasons.Unexpected e) _ (Opens 0) (λ t. shuts 0 reasons.Unexpected e)
-    (λ f. cond_both (not e.clean && (e.known && not present)) (closes reasons.SessionLost e) (comes_up [] present e) (Opens 0) (λ t. shuts 0 reasons.SessionLost e)
+    (λ f. cond_both (not e.clean && (e.known && not present)) (closes reasons.SessionLost e) (becomes_connected [] present e) (Opens 0) (λ t. shuts 0 reasons.SessionLost e)
     (λ f. record { gone = refl; shut = λ h. absurd (clash h) }))
 
 client_open_opens : (p : Packet) (e : End) → Opens 0 (client_open_gets p e)

@@ -9,7 +9,7 @@ use Rattle.mq_packet.specs.declared.packet.Packet.TheVariants as packets
 use Rattle.mq_packet.specs.Identifier.{IsIdentifier}
 use Rattle.mq_packet.specs.Values.{IsPacket}
 use Rattle.mq_packet.specs.Encoding.{EncodingLaws, fields, encoding, encodings}
-use Rattle.mq_end.specs.End.{End, Reply, puts_out}
+use Rattle.mq_end.specs.End.{End, Reply, sends_packets}
 use Rattle.mq_route.specs.Bounds.Costs.{book_for}
 use Rattle.mq_route.specs.Bounds.Ends.{PacketBounds}
 use Rattle.mq_route.specs.Bounds.Sharp.{duplicate, SharpLaws}
@@ -35,9 +35,9 @@ unfolding encoding length_bytes
 four i = refl
 
 -- the answer is longer than the packet
-broken : EncodingLaws → (gets : Packet → End → Reply) (p : Packet) (ps : List Packet) (e f : End) → IsPacket p → length (fields p) < 2 ^ 28 → gets p e ≡ puts_out ps f → length (encoding p) < length (encodings ps) → PacketBounds gets → ⊥
+broken : EncodingLaws → (gets : Packet → End → Reply) (p : Packet) (ps : List Packet) (e f : End) → IsPacket p → length (fields p) < 2 ^ 28 → gets p e ≡ sends_packets ps f → length (encoding p) < length (encodings ps) → PacketBounds gets → ⊥
 broken laws gets p ps e f right small is more bounds =
-    let within : OutWithin (length (encoding p)) (book_for p e.book) (puts_out ps f) = subst (OutWithin (length (encoding p)) (book_for p e.book)) is (bounds.answer false p (encoding p) e (laws.exists p right small)) in
+    let within : OutWithin (length (encoding p)) (book_for p e.book) (sends_packets ps f) = subst (OutWithin (length (encoding p)) (book_for p e.book)) is (bounds.answer false p (encoding p) e (laws.exists p right small)) in
     omega arith
 
 pub laws : EncodingLaws → SharpLaws

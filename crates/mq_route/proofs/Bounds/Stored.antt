@@ -28,7 +28,7 @@ use Rattle.mq_end.specs.declared.state.State.{State}
 use Rattle.mq_end.specs.declared.state.State.TheVariants.{Disconnected, Connecting, Connected}
 use Rattle.mq_end.specs.declared.happening.Happening.TheVariants as happens
 use Rattle.mq_end.specs.declared.reason.CloseReason.TheVariants as reasons
-use Rattle.mq_end.specs.End.{End, tells, over, closes, comes_up, renewed}
+use Rattle.mq_end.specs.End.{End, reports_event, over, closes, becomes_connected, renewed}
 use Rattle.mq_end.specs.Both.{stores, publish_gets, flow_gets}
 use Rattle.mq_end.specs.Client.{connack_gets, client_open_gets, client_up_gets, client_gets_in, client_gets}
 use Rattle.mq_end.specs.Server.{connect_gets, refuses, server_open_gets, server_up_gets, server_gets_in, server_gets}
@@ -79,7 +79,7 @@ connack_stores : (a : ConnAck) (e : End) → StoresWithin 0 e (connack_gets a e)
 connack_stores (connacks.Refused code) e = over_stores e 0
 connack_stores (connacks.Accepted present) e =
     cond_both (e.clean && present) (closes reasons.Unexpected e) _ (λ r. StoresWithin 0 e r.end) (λ t. over_stores e 0)
-    (λ f. cond_both (not e.clean && (e.known && not present)) (closes reasons.SessionLost e) (comes_up [] present e) (λ r. StoresWithin 0 e r.end) (λ t. over_stores e 0) (λ f. omega arith))
+    (λ f. cond_both (not e.clean && (e.known && not present)) (closes reasons.SessionLost e) (becomes_connected [] present e) (λ r. StoresWithin 0 e r.end) (λ t. over_stores e 0) (λ f. omega arith))
 
 client_open_stores : (p : Packet) (e : End) → StoresWithin (cond (is_exactly_once p) 1 0) e (client_open_gets p e).end
 client_open_stores (packets.ConnAck a) e = connack_stores a e
@@ -87,9 +87,9 @@ client_open_stores p e = over_stores e (cond (is_exactly_once p) 1 0)
 
 client_up_stores : (p : Packet) (e : End) → StoresWithin (cond (is_exactly_once p) 1 0) e (client_up_gets p e).end
 client_up_stores (packets.SubAck i codes) e =
-    cond_both (awaits_suback i (length codes) e.book) (tells (happens.SubAck i codes) (record e { book = release i e.book })) (closes reasons.Unexpected e) (λ r. StoresWithin 0 e r.end) (λ t. omega arith) (λ f. over_stores e 0)
+    cond_both (awaits_suback i (length codes) e.book) (reports_event (happens.SubAck i codes) (record e { book = release i e.book })) (closes reasons.Unexpected e) (λ r. StoresWithin 0 e r.end) (λ t. omega arith) (λ f. over_stores e 0)
 client_up_stores (packets.UnsubAck i) e =
-    cond_both (awaits_unsuback i e.book) (tells (happens.UnsubAck i) (record e { book = release i e.book })) (closes reasons.Unexpected e) (λ r. StoresWithin 0 e r.end) (λ t. omega arith) (λ f. over_stores e 0)
+    cond_both (awaits_unsuback i e.book) (reports_event (happens.UnsubAck i) (record e { book = release i e.book })) (closes reasons.Unexpected e) (λ r. StoresWithin 0 e r.end) (λ t. omega arith) (λ f. over_stores e 0)
 client_up_stores packets.PingResp e = omega arith
 client_up_stores p e = flow_stores p e
 

@@ -15,7 +15,7 @@ use Rattle.mq_end.specs.declared.reason.CloseReason.{CloseReason}
 use Rattle.mq_end.specs.End.{End, Reply, silent, one_by_one, first_reason}
 use Rattle.mq_end.specs.Ready.{is_exactly_once}
 use Rattle.mq_flow.specs.Sender.{SenderBook}
-use Rattle.mq_route.specs.Bounds.Costs.{is_rise, rises, book_for, sent_again}
+use Rattle.mq_route.specs.Bounds.Costs.{is_up_event, has_up_event, book_for, sent_again}
 use Rattle.mq_route.proofs.Bounds.Lengths.{read_size, joined_size}
 use Rattle.mq_route.proofs.Bounds.Packets.{OutWithin}
 use Rattle.mq_route.proofs.Bounds.Rises.{is_open, IsCalm, Opens}
@@ -31,7 +31,7 @@ pub record Does (refusal : ℕ) (gets : Packet → End → Reply) : Type 0 where
 
 -- The lemmas about malformed bytes.
 pub record BreaksOff (refusal : ℕ) (faulted : DecodeFault → End → Reply) : Type 0 where
-  pub quiet : (fault : DecodeFault) (e : End) → rises (faulted fault e).happenings ≡ false
+  pub quiet : (fault : DecodeFault) (e : End) → has_up_event (faulted fault e).happenings ≡ false
   pub closed : (fault : DecodeFault) (e : End) → (faulted fault e).end.state ≡ Disconnected
   pub short : (limit : Bounds) (b : List ℕ) (fault : DecodeFault) (e : End) → Faulty limit b fault.kind fault.place → length (encodings (faulted fault e).out) ≤ length b
   pub refused : (fault : DecodeFault) (e : End) → length (encodings (faulted fault e).out) ≤ refusal
@@ -48,11 +48,11 @@ first_none true b h = absurd cc
 first_none false b h = refl
 
 -- a report that is no connection doesn't change whether the end connects
-pub told_after : (first later : List Happening) → rises later ≡ false → rises (first ++ later) ≡ rises first
-told_after first later h = list_any-append is_rise first later ∙ or_none (rises first) (rises later) h
+pub told_after : (first later : List Happening) → has_up_event later ≡ false → has_up_event (first ++ later) ≡ has_up_event first
+told_after first later h = list_any-append is_up_event first later ∙ or_none (has_up_event first) (has_up_event later) h
 
-told_first : (first later : List Happening) → rises (first ++ later) ≡ false → rises first ≡ false
-told_first first later h = first_none (rises first) (rises later) (sym (list_any-append is_rise first later) ∙ h)
+told_first : (first later : List Happening) → has_up_event (first ++ later) ≡ false → has_up_event first ≡ false
+told_first first later h = first_none (has_up_event first) (has_up_event later) (sym (list_any-append is_up_event first later) ∙ h)
 
 -- ---- packets
 
@@ -81,7 +81,7 @@ first_book [] book = book
 first_book (p ∷ ps) book = book_for p book
 
 pub all_out : (refusal : ℕ) (gets : Packet → End → Reply) → Does refusal gets → (limit : Bounds) (ps : List Packet) (front : List ℕ) (e : End) → Stream limit ps front
-    → length (encodings (one_by_one gets ps e).out) ≤ length front + length (sent_again (rises (one_by_one gets ps e).happenings) (first_book ps e.book))
+    → length (encodings (one_by_one gets ps e).out) ≤ length front + length (sent_again (has_up_event (one_by_one gets ps e).happenings) (first_book ps e.book))
 all_out refusal gets does limit [] front e h = omega arith
 all_out refusal gets does limit (p ∷ ps) front e h =
     let r : Reply = gets p e in
@@ -112,7 +112,7 @@ pub data Refused (refusal : ℕ) (s : Reply) (e : End) : Type 0 where
   Nothing : s ≡ silent e → Refused refusal s e
   Closed : (reason : CloseReason) → s.close ≡ Some reason → s.end.state ≡ Disconnected → length (encodings s.out) ≤ refusal → Refused refusal s e
 
-pub all_refused : (refusal : ℕ) (gets : Packet → End → Reply) → Does refusal gets → (ps : List Packet) (e : End) → e.state ≡ Connecting → rises (one_by_one gets ps e).happenings ≡ false → Refused refusal (one_by_one gets ps e) e
+pub all_refused : (refusal : ℕ) (gets : Packet → End → Reply) → Does refusal gets → (ps : List Packet) (e : End) → e.state ≡ Connecting → has_up_event (one_by_one gets ps e).happenings ≡ false → Refused refusal (one_by_one gets ps e) e
 all_refused refusal gets does [] e waits quiet = Nothing refl
 all_refused refusal gets does (p ∷ ps) e waits quiet =
     let r : Reply = gets p e in

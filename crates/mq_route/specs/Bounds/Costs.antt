@@ -10,13 +10,13 @@ use Rattle.mq_end.specs.declared.happening.Happening.TheVariants as happens
 use Rattle.mq_end.specs.State.{EndState}
 
 -- the end reports that it is connected (3.2)
-abbrev pub is_rise : Happening → Bool
-is_rise (happens.Up session_present) = true
-is_rise happening = false
+abbrev pub is_up_event : Happening → Bool
+is_up_event (happens.Up session_present) = true
+is_up_event happening = false
 
 -- one of these reports says that the end is connected
-abbrev pub rises : List Happening → Bool
-rises happenings = list_any is_rise happenings
+abbrev pub has_up_event : List Happening → Bool
+has_up_event happenings = list_any is_up_event happenings
 
 -- the sender's book with which a packet connects an end: a CONNECT with clean session 1 discards
 -- the book (3.1.2.4)

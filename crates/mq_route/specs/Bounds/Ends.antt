@@ -5,7 +5,7 @@ use Rattle.mq_wire.specs.Bytes.{AreBytes}
 use Rattle.mq_packet.specs.declared.packet.Packet.{Packet}
 use Rattle.mq_packet.specs.Encoding.{fields, encodings}
 use Rattle.mq_decode.specs.Grammar.{Reads, ReadsWithin}
-use Rattle.mq_flow.specs.declared.entry.Entry.{Entry}
+use Rattle.mq_flow.specs.declared.entry.SenderEntry.{SenderEntry}
 use Rattle.mq_flow.specs.Sender.{SenderBook, uses, publish_packet, resent}
 use Rattle.mq_end.specs.declared.state.State.TheVariants.{Connecting}
 use Rattle.mq_end.specs.declared.happening.Happening.{Happening}
@@ -17,7 +17,7 @@ use Rattle.mq_end.specs.State.{EndState}
 use Rattle.mq_end.specs.Ready.{is_exactly_once}
 use Rattle.mq_end.specs.Receiving.{ClientReceives, ServerReceives, ClientTakes, TakesOne}
 use Rattle.mq_end.specs.Laws.{KeepsWindow}
-use Rattle.mq_route.specs.Bounds.Costs.{rises, book_for, sent_again, kept}
+use Rattle.mq_route.specs.Bounds.Costs.{has_up_event, book_for, sent_again, kept}
 use Rattle.mq_route.specs.Bounds.Waiting.{WaitsThrough}
 
 -- An end processes a packet by `gets`.
@@ -25,7 +25,7 @@ pub record PacketBounds (gets : Packet → End → Reply) : Type 0 where
   -- the output has at most as many bytes as the packet, without retransmissions when the end
   -- connects (4.4)
   pub answer : (lenient : Bool) (packet : Packet) (bytes : List ℕ) (end : End) → Reads lenient packet bytes
-      → length (encodings (gets packet end).out) ≤ length bytes + length (sent_again (rises (gets packet end).happenings) (book_for packet end.book))
+      → length (encodings (gets packet end).out) ≤ length bytes + length (sent_again (has_up_event (gets packet end).happenings) (book_for packet end.book))
   -- a PUBLISH of QoS 2 stores at most one identifier, any other packet none (4.3.3)
   pub stored : (packet : Packet) (end : End) → FinSet.len (gets packet end).end.received ≤ FinSet.len end.received + (if is_exactly_once packet then 1 else 0)
   -- the receive window stays the same, and at most that many identifiers are stored, or the number
@@ -57,17 +57,17 @@ pub record ReceiveCall (receives : List ℕ → EndState → EndState → List H
 -- refused first packet.
 pub record ReceiveBounds (refusal : ℕ) (receives : List ℕ → EndState → EndState → List Happening → List ℕ → Option CloseReason → Type 0) : Type 0 where
   -- if the end does not connect, its stored bytes grow by at most the length of the piece
-  pub grows : (call : ReceiveCall receives) → rises call.happenings ≡ false → kept call.new ≤ kept call.old + length call.piece
+  pub grows : (call : ReceiveCall receives) → has_up_event call.happenings ≡ false → kept call.new ≤ kept call.old + length call.piece
   -- if the end connects, they grow by at most that and the PUBRELs and PUBLISHes that are sent
   -- again (4.4)
-  pub comes_up : (call : ReceiveCall receives) → rises call.happenings ≡ true → Connects call.piece call.old call.new
+  pub comes_up : (call : ReceiveCall receives) → has_up_event call.happenings ≡ true → Connects call.piece call.old call.new
   -- only an end that waits for the first packet connects (3.1, 3.2)
-  pub once : (call : ReceiveCall receives) → rises call.happenings ≡ true → call.old.end.state ≡ Connecting
+  pub once : (call : ReceiveCall receives) → has_up_event call.happenings ≡ true → call.old.end.state ≡ Connecting
   -- an end that still waits has sent nothing
   pub waits : (call : ReceiveCall receives) → call.new.end.state ≡ Connecting
       → (call.old.end.state ≡ Connecting) × (call.new.output ≡ call.old.output)
   -- if a waiting end does not connect, it sends at most its refusal
-  pub refuses : (call : ReceiveCall receives) → call.old.end.state ≡ Connecting → rises call.happenings ≡ false
+  pub refuses : (call : ReceiveCall receives) → call.old.end.state ≡ Connecting → has_up_event call.happenings ≡ false
       → length call.new.output ≤ length call.old.output + refusal
   -- the held bytes are bytes if the incoming ones are, and at most five more than the maximum
   -- remaining length (2.2.3)
@@ -84,7 +84,7 @@ pub record ReceiveBounds (refusal : ℕ) (receives : List ℕ → EndState → E
 -- A packet is processed by itself, and an allocation for it may fail.
 pub record TakeBounds (takes : ℕ → Packet → EndState → EndState → List Happening → List ℕ → Option CloseReason → Type 0) : Type 0 where
   pub grows : (now : ℕ) (lenient : Bool) (packet : Packet) (bytes : List ℕ) (old new : EndState) (happenings : List Happening) (acknowledged : List ℕ) (closed : Option CloseReason)
-      → takes now packet old new happenings acknowledged closed → Reads lenient packet bytes → kept new ≤ (kept old + length bytes) + length (sent_again (rises happenings) (book_for packet old.end.book))
+      → takes now packet old new happenings acknowledged closed → Reads lenient packet bytes → kept new ≤ (kept old + length bytes) + length (sent_again (has_up_event happenings) (book_for packet old.end.book))
 
 pub record BoundsLaws : Type 0 where
   pub client_packet : PacketBounds client_gets
@@ -95,5 +95,5 @@ pub record BoundsLaws : Type 0 where
   pub client_takes : TakeBounds ClientTakes
   pub server_takes : TakeBounds TakesOne
   -- at most one packet for each identifier in use is sent again, each within the limit
-  pub again : (limit : ℕ) (book : SenderBook) → All (λ (entry : Entry). length (fields (publish_packet entry.id entry.sent entry.message)) ≤ limit) book.entries
+  pub again : (limit : ℕ) (book : SenderBook) → All (λ (entry : SenderEntry). length (fields (publish_packet entry.id entry.sent entry.message)) ≤ limit) book.entries
       → length (encodings (resent book)) ≤ length (uses book) * (5 + limit)

@@ -50,7 +50,7 @@ pub(crate) fn serve(end: &mut ServerEnd, call: Call) -> Result<PacketOutcome, Al
 
 /// Has a connected end process the PUBLISH of a message (3.3). The caller keeps the message.
 #[inline(always)]
-pub(crate) fn take_publish(
+pub(crate) fn serve_publish(
     end: &mut ServerEnd,
     now: u64,
     message: &Message,
@@ -61,5 +61,5 @@ pub(crate) fn take_publish(
     ensures { Serves (publish_call now message.now delivery) (told_of message.now result) end.old end.new }
 {
     encoding_laws();
-    end.take_publish(now, message, delivery)
+    end.receive_publish(now, message, delivery)
 }

@@ -1,7 +1,7 @@
 //! The end of a session processes a CONNECT (3.1.4, 3.2).
 
 ghost use Rattle.std.specs.Prelude.{◌≡◌, ◌<◌, [], OnOk, OnErr, IsSome};
-ghost use Rattle.mq_tables.specs.Prelude.{HasRise, Room, resume_session, connected_end, roomed, HasConnected, IsRoomed, session_at};
+ghost use Rattle.mq_tables.specs.Prelude.{HasConnectRoom, Room, resume_session, connected_end, roomed, HasConnected, IsRoomed, session_at};
 
 use crate::sessions::table::Sessions;
 use mq_end::ServerEnd;
@@ -11,7 +11,7 @@ use std::alloc::AllocError;
 
 /// Has an end process a CONNECT for which it has room (3.1.4, 3.2).
 pub(crate) fn connect_end(end: &mut ServerEnd, connect: BoxedConnect, now: u64)
-    requires { HasRise connect [] 0 end.old }
+    requires { HasConnectRoom connect [] 0 end.old }
     ensures { end.new ≡ connected_end connect now end.old }
 {
     encoding_laws();

@@ -74,7 +74,7 @@ impl Sessions {
 }
 
 #[inline(always)]
-fn take_publish_at(
+fn serve_publish_at(
     list: &mut [BoxedSession],
     key: ClientKey,
     now: u64,
@@ -87,14 +87,14 @@ fn take_publish_at(
     ensures { ServesAt key (publish_call now message.now delivery) (told_of message.now result) list.old list.new }
 {
     let at = place(list, key);
-    list[at].take_publish(now, message, delivery)
+    list[at].serve_publish(now, message, delivery)
 }
 
 impl Sessions {
     /// Has the end of a session, which must be connected, process the PUBLISH of a message (3.3).
     /// The caller keeps the message.
     #[inline(always)]
-    pub fn take_publish(
+    pub fn serve_publish(
         &mut self,
         key: ClientKey,
         now: u64,
@@ -107,7 +107,7 @@ impl Sessions {
         ensures err { OnErr result (self.new.list ≡ self.old.list) }
         ensures room { self.new.room ≡ self.old.room }
     {
-        take_publish_at(self.list.as_mut_slice(), key, now, message, delivery)
+        serve_publish_at(self.list.as_mut_slice(), key, now, message, delivery)
     }
 }
 
@@ -157,14 +157,14 @@ fn reserve_connect_at(
     list[at].reserve_connect(connect, messages)
 }
 
-fn leave_at(list: &mut [BoxedSession], key: ClientKey)
+fn lose_connection_at(list: &mut [BoxedSession], key: ClientKey)
     requires ascending { AreAscending list.old }
     requires there { IsSome (session_at key list.old) }
     ensures list { IfSome (session_at key list.old) (λ t. list.new ≡ with_server key (left t.end) list.old) }
     ensures connect_end { (c : Connect) (ms : List Message) (more : ℕ) → HasConnectRoomAt c key ms more list.old → HasConnectRoomAt c key ms more list.new }
 {
     let at = place(list, key);
-    list[at].leave();
+    list[at].lose_connection();
 }
 
 fn connect_end_at(list: &mut [BoxedSession], key: ClientKey, connect: BoxedConnect, now: u64)
@@ -196,13 +196,13 @@ impl Sessions {
 
     /// The end of a session loses its connection (3.1.2.4) and keeps its room. Its pending output
     /// is dropped.
-    pub(crate) fn leave(&mut self, key: ClientKey)
+    pub(crate) fn lose_connection(&mut self, key: ClientKey)
         requires { IsSome (session_at key self.old.list) }
         ensures list { IfSome (session_at key self.old.list) (λ t. self.new.list ≡ with_server key (left t.end) self.old.list) }
         ensures connect_end { (c : Connect) (ms : List Message) (more : ℕ) → HasConnectRoomAt c key ms more self.old.list → HasConnectRoomAt c key ms more self.new.list }
         ensures room { self.new.room ≡ self.old.room }
     {
-        leave_at(self.list.as_mut_slice(), key);
+        lose_connection_at(self.list.as_mut_slice(), key);
     }
 
     /// Has the end of a session process a CONNECT for which it has room (3.1.4, 3.2).

@@ -1,9 +1,9 @@
 //! One session.
 
 ghost use Rattle.std.specs.Prelude.{◌≡◌, ◌&&◌, ℕ, List, [], ◌∷◌, length, nat_le, true, IfOk, IfSome, OnOk};
-ghost use Rattle.mq_tables.specs.Prelude.{AllByRecursion, is_up, HasRise, HasRoom, Connect, Message, fits_delivery, IsFirstFree, told_of, IsAllowed, Serves, publish_call, stored_at, Collects, parted, left, connected_end, published, IsReady, MayGo, Readies, bytes_of, count_of, fits_left, free_of, has_room};
+ghost use Rattle.mq_tables.specs.Prelude.{AllByRecursion, is_up, HasConnectRoom, HasRoom, Connect, Message, fits_delivery, IsFirstFree, told_of, IsAllowed, Serves, publish_call, stored_at, Collects, parted, left, connected_end, published, IsReady, MayGo, Readies, bytes_of, count_of, fits_left, free_of, has_room};
 
-use crate::sessions::call::{Call, serve, take_publish};
+use crate::sessions::call::{Call, serve, serve_publish};
 use crate::sessions::connect::connect_end;
 use crate::space::{fits_left, has_identifier, left_of, stored_left};
 use bytes::Bytes;
@@ -149,7 +149,7 @@ impl BoxedSession {
     /// Has the end, which must be connected, process the PUBLISH of a message (3.3). The caller
     /// keeps the message.
     #[inline(always)]
-    pub(crate) fn take_publish(
+    pub(crate) fn serve_publish(
         &mut self,
         now: u64,
         message: &Message,
@@ -161,7 +161,7 @@ impl BoxedSession {
         ensures session { self.new ≡ record self.old { end = self.new.end } }
     {
         let session = &mut *self.session;
-        take_publish(&mut session.end, now, message, delivery)
+        serve_publish(&mut session.end, now, message, delivery)
     }
 }
 
@@ -173,7 +173,7 @@ impl BoxedSession {
         connect: &Connect,
         messages: &[Message],
     ) -> Result<(), AllocError>
-        ensures ok { OnOk result (HasRise connect.now messages.now 0 self.new.end) }
+        ensures ok { OnOk result (HasConnectRoom connect.now messages.now 0 self.new.end) }
         ensures end { self.new.end ≡ record self.old.end { room = self.new.end.room } }
         ensures session { self.new ≡ record self.old { end = self.new.end } }
         ensures before { (ms : List Message) (n : ℕ) → HasRoom ms n self.old.end → HasRoom ms n self.new.end }
@@ -183,9 +183,9 @@ impl BoxedSession {
     }
 
     /// The end loses its connection (3.1.2.4) and keeps its room. Its pending output is dropped.
-    pub(crate) fn leave(&mut self)
+    pub(crate) fn lose_connection(&mut self)
         ensures session { self.new ≡ record self.old { end = left self.old.end } }
-        ensures connect_end { (c : Connect) (ms : List Message) (more : ℕ) → HasRise c ms more self.old.end → HasRise c ms more self.new.end }
+        ensures connect_end { (c : Connect) (ms : List Message) (more : ℕ) → HasConnectRoom c ms more self.old.end → HasConnectRoom c ms more self.new.end }
     {
         let session = &mut *self.session;
         session.end.dropped();
@@ -193,7 +193,7 @@ impl BoxedSession {
 
     /// Has the end process a CONNECT for which it has room (3.1.4, 3.2).
     pub(crate) fn connect_end(&mut self, connect: BoxedConnect, now: u64)
-        requires { HasRise connect [] 0 self.old.end }
+        requires { HasConnectRoom connect [] 0 self.old.end }
         ensures { self.new ≡ record self.old { end = connected_end connect now self.old.end } }
     {
         let session = &mut *self.session;

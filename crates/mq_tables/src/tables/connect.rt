@@ -165,7 +165,7 @@ impl<S: FilterStore> Tables<S> {
         ensures rest { self.new ≡ record self.old { sessions = self.new.sessions; connections = self.new.connections } }
     {
         let mut output = waiting;
-        self.sessions.leave(key);
+        self.sessions.lose_connection(key);
         let stage = self.connections.shut(conn);
         self.connections.swap_waiting(conn, &mut output);
         stage

@@ -2,7 +2,7 @@
 
 use mq_end::{Happening, Progress};
 use mq_packet::{Message, PacketId};
-use mq_world::{Answer, Delivery, Opening, Settling};
+use mq_world::{Answer, DeliveredBytes, Opening, Settling};
 use std::alloc::{AllocError, Global};
 
 // Adds bytes as hexadecimal digits.
@@ -52,7 +52,7 @@ fn add_progress(text: &mut String, progress: &Progress) -> Result<(), AllocError
     }
 }
 
-fn add_delivery(text: &mut String, delivery: &Delivery) -> Result<(), AllocError> {
+fn add_delivery(text: &mut String, delivery: &DeliveredBytes) -> Result<(), AllocError> {
     add_hex(text, delivery.bytes.as_slice())?;
     if delivery.lost {
         text.push_str(", lost")?;

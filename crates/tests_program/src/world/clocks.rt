@@ -1,6 +1,6 @@
 //! Passing time.
 
-use crate::world::Act::{Look, Make};
+use crate::world::Action::{Look, Make};
 use crate::world::Row;
 use crate::world::Step::{Deliver, Open, Publish, Tick};
 use crate::world::ask::Ask::{HasSession, Wire};

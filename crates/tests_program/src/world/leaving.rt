@@ -1,6 +1,6 @@
 //! Clients that leave.
 
-use crate::world::Act::{Look, Make, Settle};
+use crate::world::Action::{Look, Make, Settle};
 use crate::world::Row;
 use crate::world::Step::{Deliver, Leave, Open, Publish};
 use crate::world::ask::Ask::{HasSession, Held, Wire};

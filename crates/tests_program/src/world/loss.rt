@@ -1,6 +1,6 @@
 //! Bytes that are lost.
 
-use crate::world::Act::{Look, Make, Settle};
+use crate::world::Action::{Look, Make, Settle};
 use crate::world::Row;
 use crate::world::Step::{Deliver, Lose, Open, Publish, Tick};
 use crate::world::ask::Ask::{Counts, Freed, HasSession, Held, IsIdle, Wire};

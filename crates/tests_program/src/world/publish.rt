@@ -1,6 +1,6 @@
 //! The messages that sides publish.
 
-use crate::world::Act::{Look, Make};
+use crate::world::Action::{Look, Make};
 use crate::world::Row;
 use crate::world::Step::{Deliver, Lose, Open, Publish};
 use crate::world::ask::Ask::{Counts, HasFailed, Wire};

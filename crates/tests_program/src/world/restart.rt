@@ -1,6 +1,6 @@
 //! The client's program ends and continues.
 
-use crate::world::Act::{Look, Make, Settle};
+use crate::world::Action::{Look, Make, Settle};
 use crate::world::Row;
 use crate::world::Step::{Deliver, Open, Publish, Restart};
 use crate::world::ask::Ask::{Counts, HasSession, Held, Wire};

@@ -1,9 +1,9 @@
 //! Whole runs: their traces, and what follows them.
 
-use crate::world::Act::{Look, Settle};
+use crate::world::Action::{Look, Settle};
 use crate::world::Step::{Deliver, Leave, Lose, Open, Publish, Tick};
 use crate::world::ask::Ask::{Answer, Counts, HasFailed, HasSession, Held, Wire};
-use crate::world::{Act, Step, event_of, expect};
+use crate::world::{Action, Step, event_of, expect};
 use mq_decode::Limits;
 use mq_topic::Qos;
 use mq_world::Side::{Client, Server};
@@ -54,7 +54,7 @@ struct Course {
     name: &'static str,
     window: Option<u16>,
     steps: &'static [Step],
-    acts: &'static [(Act, &'static str)],
+    acts: &'static [(Action, &'static str)],
 }
 
 static RUNS: [Course; 5] = [

@@ -1,6 +1,6 @@
 use Rattle.std.proofs.Common.{take, flat_map}
 use Rattle.std.specs.Io.KnownBytes.{Appends}
-use Rattle.mq_broker.specs.Snapshots.{snapshot_line}
+use Rattle.mq_broker.specs.Inside.Snapshots.{snapshot_line}
 use Rattle.mq_broker.proofs.snapshot.write_snapshots.Given as goal
 
 abbrev pub invariant-loop-note : goal.invariant-loop-note

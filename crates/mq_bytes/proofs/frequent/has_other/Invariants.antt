@@ -1,6 +1,6 @@
 use Rattle.std.proofs.Common.{◌≡◌, ◌||◌, take}
 use Rattle.std.specs.List.{list_any}
-use Rattle.mq_wire.specs.Text.{is_special}
+use Rattle.mq_wire.specs.Inside.Text.{is_special}
 use Rattle.mq_topic.specs.Topic.{is_wildcard}
 use Rattle.mq_bytes.proofs.frequent.has_other.Given as goal
 

@@ -2,7 +2,8 @@ use Rattle.std.proofs.Common.{◌≡◌, ◌∙◌, map, ap, subst, arith}
 use Rattle.std.proofs.lemmas.List.{take_all}
 use Rattle.std.specs.Prelude.{IfSome}
 use Rattle.clap.specs.Words.{App, Text, shape_of}
-use Rattle.mq_cli.specs.Grammar.{command_named, program_words}
+use Rattle.mq_cli.specs.Grammar.{program_words}
+use Rattle.mq_cli.specs.Inside.Grammar.{command_named}
 use Rattle.mq_cli.proofs.Commands.{next_listed, same_shape}
 use Rattle.mq_cli.proofs.grammar.command_list.Goals as goal
 

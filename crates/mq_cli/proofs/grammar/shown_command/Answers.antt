@@ -1,6 +1,7 @@
 use Rattle.std.proofs.Common.{codes, refl}
 use Rattle.clap.specs.Words.{new_app}
-use Rattle.mq_cli.specs.Grammar.{broker_words, check_words, collect_words, command_named, match_words, publish_words, random_words, replay_words, serve_words, show_words, word_words}
+use Rattle.mq_cli.specs.Grammar.{broker_words, check_words, collect_words, match_words, publish_words, random_words, replay_words, serve_words, show_words, word_words}
+use Rattle.mq_cli.specs.Inside.Grammar.{command_named}
 use Rattle.mq_cli.proofs.Commands.{differs, shown, unnamed}
 use Rattle.mq_cli.proofs.grammar.shown_command.Goals as goal
 

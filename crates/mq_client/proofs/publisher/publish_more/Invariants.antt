@@ -1,5 +1,6 @@
 use Rattle.std.proofs.Common.{◌-◌, length}
-use Rattle.mq_client.specs.Publishing.{AskedMore, asks_of}
+use Rattle.mq_client.specs.Publishing.{asks_of}
+use Rattle.mq_client.specs.Inside.Publishing.{AskedMore}
 use Rattle.mq_client.proofs.publisher.publish_more.Given as goal
 
 abbrev pub invariant-loop-next : goal.invariant-loop-next

@@ -1,6 +1,7 @@
 use Rattle.std.proofs.Common.{◌≡◌, ℕ, List, ◌+◌, ◌++◌, length, take, drop, sym, ap, subst, ◌∙◌, arith}
 use Rattle.std.proofs.lemmas.Result.{err_from_is_err_and}
-use Rattle.mq_decode.specs.Grammar.{IsAlone, Pending, ReadsWithin, Wants}
+use Rattle.mq_decode.specs.Grammar.{Pending, ReadsWithin, Wants}
+use Rattle.mq_decode.specs.Inside.Grammar.{IsAlone}
 use Rattle.mq_decode.specs.Copied.{counted_more}
 use Rattle.mq_decode.proofs.Copying.{alone_reads, counts_part}
 use Rattle.mq_decode.proofs.Streams.{front_piece, held_alone, next_bytes, wants_nothing}

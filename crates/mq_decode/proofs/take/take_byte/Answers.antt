@@ -1,6 +1,7 @@
 use Rattle.std.proofs.Common.{◌≡◌, ℕ, List, ◌<◌, ◌++◌, [], ◌∷◌, length, sym, subst, ◌∙◌, arith}
 use Rattle.mq_decode.specs.Copied.{counted_more}
-use Rattle.mq_decode.specs.Grammar.{IsAlone, Takes}
+use Rattle.mq_decode.specs.Grammar.{Takes}
+use Rattle.mq_decode.specs.Inside.Grammar.{IsAlone}
 use Rattle.mq_decode.proofs.Alone.{byte_alone, takes_copies, takes_goes}
 use Rattle.mq_decode.proofs.Waiting.{short_copied}
 use Rattle.mq_decode.proofs.take.take_byte.Goals as goal

@@ -1,5 +1,5 @@
 use Rattle.std.proofs.Common.{◌≡◌, ◌+◌, ◌*◌, ◌<◌, ◌^◌, List, arith, subst}
-use Rattle.mq_flow.specs.declared.entry.Entry.{Entry}
+use Rattle.mq_flow.specs.declared.entry.SenderEntry.{SenderEntry}
 use Rattle.mq_flow.specs.Sender.{resent}
 use Rattle.mq_end.specs.Ready.{AreEncodable, packets_size}
 use Rattle.mq_end.proofs.Rises.{always, resent_by, resent_encodable, sum_is}
@@ -18,4 +18,4 @@ returns-clause-size c =
 pub returns-clause-encodable : goal.returns-clause-encodable
 returns-clause-encodable c =
     always c.checked_add.result (AreEncodable (resent c.args.sender.now.book))
-    (resent_encodable c.args.sender.now.book (subst (λ (es : List Entry). AreEncodable (published es)) c.entries.ensures.rest c.in_ok-messages.ensures.encodable))
+    (resent_encodable c.args.sender.now.book (subst (λ (es : List SenderEntry). AreEncodable (published es)) c.entries.ensures.rest c.in_ok-messages.ensures.encodable))

@@ -1,6 +1,6 @@
 use Rattle.std.proofs.Common.{rules, ◌≡◌, w32, to_z, of_z}
 use Rattle.mq_bytes.specs.Checks.{IsSavedSession}
-use Rattle.mq_ffi.specs.Codes.{check_code}
+use Rattle.mq_ffi.specs.Inside.Codes.{check_code}
 use Rattle.mq_ffi.proofs.Reports.{saved_checked}
 use Rattle.mq_ffi.proofs.exports.poskvari_session_check.Goals as goal
 

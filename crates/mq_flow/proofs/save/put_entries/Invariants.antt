@@ -2,7 +2,8 @@ use Rattle.std.proofs.Common.{◌≡◌, ◌++◌, length, take}
 use Rattle.std.specs.List.{flat_map}
 use Rattle.mq_flow.specs.Held.{messages}
 use Rattle.mq_wire.specs.Number.{number}
-use Rattle.mq_flow.specs.Saved.{saved_entry, HaveTopics}
+use Rattle.mq_flow.specs.Saved.{saved_entry}
+use Rattle.mq_flow.specs.Inside.Saved.{HaveTopics}
 use Rattle.mq_flow.proofs.save.put_entries.Given as goal
 
 abbrev pub invariant-loop-entry : goal.invariant-loop-entry

@@ -1,6 +1,6 @@
 use Rattle.std.proofs.Common.{arith, get_or, refl, sym, ap, ◌∙◌}
 use Rattle.std.specs.Option.{option_map}
-use Rattle.mq_flow.specs.Held.{gone_out}
+use Rattle.mq_flow.specs.Inside.Held.{gone_out}
 use Rattle.mq_flow.proofs.Slots.{one_changed}
 use Rattle.mq_flow.proofs.table.mark_slots.Goals as goal
 

@@ -4,7 +4,8 @@ use Rattle.mq_flow.specs.Receiver.{none_received}
 use Rattle.mq_route.specs.Routed.{placed, routed, settled, taken}
 use Rattle.mq_route.specs.Runs.{IsRun, came_in}
 use Rattle.mq_route.specs.Taken.{handed_from, of_client}
-use Rattle.mq_hub.specs.Run.{AreCollected, IsTraced, acts_in}
+use Rattle.mq_hub.specs.Run.{AreCollected, acts_in}
+use Rattle.mq_hub.specs.Inside.Run.{IsTraced}
 use Rattle.mq_hub.proofs.RunLemmas.{pair_gives, run_is, run_routes, run_settles, run_takes}
 use Rattle.mq_hub.proofs.run.hub_run_over.Goals as goal
 

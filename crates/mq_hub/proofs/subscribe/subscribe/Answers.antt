@@ -41,8 +41,8 @@ serve-requires g c =
     (subst (λ (v : HubTables). CanServe key (Grants c.args.id c.from_vec.result) v.sessions.list) (sym c.tables.view_is)
     (subst (λ (cs : List SubAckCode). CanServe key (Grants c.args.id cs) c.args.tables.now.sessions.list) (sym codes) c.requires.can))
 
-pub place_for-requires : goal.place_for-requires
-place_for-requires g c =
+pub enqueue_for-requires : goal.enqueue_for-requires
+enqueue_for-requires g c =
     let key = c.args.key in
     let ready = c.settle_for.new.sessions.list in
     let kept = c.in-Some.settled.kept.items in
@@ -122,7 +122,7 @@ returns-clause-done g c = λ done.
             (λ u there. (holds_at (SessionMatchesConnection config c.tables.inside.connections.connections) key u c.serve.new.self.list there invariant.fitting).capacity)
             c.requires.can.up (c.size_laws.ensures.suback c.args.id (granted c.args.requests)) queued settled);
         ready = left_ready key call c.serve.result kept (7 + length c.as_slice-count.result.now) ready c.serve.new.self.list c.serve.ensures.serves ok.0 ok.1 (λ e. refl) fits was;
-        list = c.place_for.ensures.list;
+        list = c.enqueue_for.ensures.list;
         rows = refl;
         retained = refl;
         connections = refl;

@@ -1,5 +1,5 @@
 use Rattle.std.proofs.Common.{[]}
-use Rattle.mq_client.specs.Publishing.{AskedFirst}
+use Rattle.mq_client.specs.Inside.Publishing.{AskedFirst}
 use Rattle.mq_loopback.specs.Clients.{asks_of}
 use Rattle.mq_loopback.proofs.client_run.publish_acknowledged.Given as goal
 

@@ -1,5 +1,5 @@
 use Rattle.std.proofs.Common.{◌-◌, length}
-use Rattle.mq_client.specs.Publishing.{AskedMore}
+use Rattle.mq_client.specs.Inside.Publishing.{AskedMore}
 use Rattle.mq_loopback.specs.Clients.{asks_of}
 use Rattle.mq_loopback.proofs.client_run.publish_more.Given as goal
 

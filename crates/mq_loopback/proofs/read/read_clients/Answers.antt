@@ -3,7 +3,8 @@ use Rattle.std.proofs.lemmas.Iterator.Consumers.{YieldsList-so_far, YieldsList-t
 use Rattle.std.proofs.lemmas.Iterator.Splits.{YieldsList-from_str_split}
 use Rattle.mq_schedule.specs.Parts.{parts}
 use Rattle.mq_loopback.specs.declared.client.Client.{Client}
-use Rattle.mq_loopback.specs.File.{AreClients, IsBadLine, Joins}
+use Rattle.mq_loopback.specs.File.{AreClients, IsBadLine}
+use Rattle.mq_loopback.specs.Inside.File.{Joins}
 use Rattle.mq_loopback.proofs.Lines.{client_more, fault_is, number_is, stops}
 use Rattle.mq_loopback.proofs.read.read_clients.Goals as goal
 

@@ -2,7 +2,7 @@ use Rattle.std.proofs.Common.{◌≡◌, List, sym, subst, ◌∙◌}
 use Rattle.std.proofs.lemmas.List.{map-id}
 use Rattle.std.proofs.lemmas.Iterator.Adapters.{YieldsList-from_vec}
 use Rattle.std.proofs.lemmas.Iterator.Consumers.{YieldsList-end}
-use Rattle.mq_picture.specs.declared.entry.Entry.{Entry}
+use Rattle.mq_picture.specs.declared.entry.RecordEntry.{RecordEntry}
 use Rattle.mq_picture.specs.Inside.Lanes.{IsChart}
 use Rattle.mq_picture.proofs.Charts.{chart_draws}
 use Rattle.mq_picture.proofs.rows.rows_of.Goals as goal
@@ -19,5 +19,5 @@ returns c =
     let items : drawn ≡ c.args.entries.items = sym (map-id drawn) ∙ all.0 in
     let first : IsChart drawn c.end_all.new.self = c.in_ok-end_all.ensures.chart drawn c.loop-entry.invariant in
     let chart : IsChart drawn c.end_all-2.new.self = c.in_ok-end_all-2.ensures.chart drawn first in
-    chart_draws c.args.entries.items c.end_all-2.new.self (subst (λ (es : List Entry). IsChart es c.end_all-2.new.self) items chart)
+    chart_draws c.args.entries.items c.end_all-2.new.self (subst (λ (es : List RecordEntry). IsChart es c.end_all-2.new.self) items chart)
     (c.in_ok-end_all-2.ensures.client ∙ c.in_ok-end_all.ensures.client) c.in_ok-end_all-2.ensures.server

@@ -1,6 +1,6 @@
 use Rattle.std.proofs.Common.{◌≡◌, IfOk, subst, sym}
 use Rattle.clap.specs.Words.{rule_of}
-use Rattle.mq_pubsub_options.specs.Grammar.{named_rule_of, rule_with}
+use Rattle.mq_pubsub_options.specs.Inside.Grammar.{named_rule_of, rule_with}
 use Rattle.mq_pubsub_options.specs.declared.grammar.Kind.{Kind}
 use Rattle.mq_pubsub_options.proofs.Rows.{renamed}
 use Rattle.mq_pubsub_options.proofs.grammar.arg_of.Goals as goal

@@ -1,6 +1,7 @@
 use Rattle.std.proofs.Common.{◌≡◌, ◌∙◌, IfOk, ap, subst, map, refl, rules}
 use Rattle.clap.specs.Words.{App, app_of}
-use Rattle.mq_pubsub_options.specs.Grammar.{bare_app, common_rules, rule_of_row, with_rules}
+use Rattle.mq_pubsub_options.specs.Grammar.{bare_app, common_rules, with_rules}
+use Rattle.mq_pubsub_options.specs.Inside.Grammar.{rule_of_row}
 use Rattle.mq_pubsub_options.proofs.grammar.command_of.Goals as goal
 
 pub returns : goal.returns

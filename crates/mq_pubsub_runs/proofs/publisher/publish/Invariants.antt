@@ -1,4 +1,4 @@
-use Rattle.mq_pubsub_runs.specs.Posting.{Remembers}
+use Rattle.mq_pubsub_runs.specs.Inside.Posting.{Remembers}
 use Rattle.mq_pubsub_runs.proofs.Postings.{PostedSoFar}
 use Rattle.mq_pubsub_runs.proofs.publisher.publish.Given as goal
 

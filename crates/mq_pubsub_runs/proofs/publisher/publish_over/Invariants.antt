@@ -1,4 +1,5 @@
-use Rattle.mq_pubsub_runs.specs.Posting.{Progress, Remembers}
+use Rattle.mq_pubsub_runs.specs.Posting.{Progress}
+use Rattle.mq_pubsub_runs.specs.Inside.Posting.{Remembers}
 use Rattle.mq_pubsub_runs.proofs.publisher.publish_over.Given as goal
 
 abbrev pub invariant-loop : goal.invariant-loop

@@ -1,4 +1,4 @@
-use Rattle.mq_status.specs.Passwords.{AreTablesOf}
+use Rattle.mq_status.specs.Inside.Passwords.{AreTablesOf}
 use Rattle.mq_status.proofs.passwords.tables_of.Given as goal
 
 abbrev pub invariant-loop-entry : goal.invariant-loop-entry

@@ -1,6 +1,6 @@
 use Rattle.std.proofs.Common.{ap, subst, sym, ◌&&◌, ◌≡◌, ◌↔◌, ◌∙◌, IsTrue}
-use Rattle.mq_durable.specs.Recorded.{AreReadable}
-use Rattle.mq_store.specs.Restoring.{may_end}
+use Rattle.mq_durable.specs.Inside.Recorded.{AreReadable}
+use Rattle.mq_store.specs.Inside.Restoring.{may_end}
 use Rattle.mq_store.proofs.Lasting.{may_be_left}
 use Rattle.mq_store.proofs.listing.list_journal.Goals as goal
 use Rattle.mq_store.proofs.listing.list_journal.Goals.{then-are_readable, else-are_readable}

@@ -1,6 +1,7 @@
 use Rattle.std.proofs.Common.{◌≡◌, List, length, ap, ◌∙◌}
 use Rattle.mq_route.specs.declared.event.HubEvent.{HubEvent}
-use Rattle.mq_durable.specs.Recorded.{events_in_all, events_of}
+use Rattle.mq_durable.specs.Recorded.{events_of}
+use Rattle.mq_durable.specs.Inside.Recorded.{events_in_all}
 use Rattle.mq_durable.proofs.Recoveries.{of_read}
 use Rattle.mq_store.proofs.restoring.count_events.Goals as goal
 

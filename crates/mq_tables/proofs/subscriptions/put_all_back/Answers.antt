@@ -1,5 +1,5 @@
 use Rattle.std.proofs.Common.{◌∙◌, List, sym, ap, subst}
-use Rattle.mq_tables.specs.Subscriptions.{AreThere, Before, rows_back}
+use Rattle.mq_tables.specs.Inside.Subscriptions.{AreThere, Before, rows_back}
 use Rattle.mq_tables.proofs.RestoredRows.{back_last, last_there}
 use Rattle.mq_tables.proofs.subscriptions.put_all_back.Goals as goal
 

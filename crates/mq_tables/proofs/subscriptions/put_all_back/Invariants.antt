@@ -1,5 +1,5 @@
 use Rattle.std.proofs.Common.{◌≡◌, vec_len}
-use Rattle.mq_tables.specs.Subscriptions.{rows_back, AreThere}
+use Rattle.mq_tables.specs.Inside.Subscriptions.{rows_back, AreThere}
 use Rattle.mq_tables.proofs.subscriptions.put_all_back.Given as goal
 
 abbrev pub invariant-loop-filter : goal.invariant-loop-filter

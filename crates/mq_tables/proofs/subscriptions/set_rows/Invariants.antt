@@ -1,5 +1,6 @@
 use Rattle.std.proofs.Common.{◌≡◌, drop}
-use Rattle.mq_tables.specs.Subscriptions.{rows_back, with_rows, AreThere}
+use Rattle.mq_tables.specs.Subscriptions.{with_rows}
+use Rattle.mq_tables.specs.Inside.Subscriptions.{rows_back, AreThere}
 use Rattle.mq_tables.proofs.subscriptions.set_rows.Given as goal
 
 abbrev pub invariant-loop-request : goal.invariant-loop-request

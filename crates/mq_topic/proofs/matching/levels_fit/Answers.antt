@@ -1,5 +1,5 @@
 use Rattle.std.proofs.Common.{sym, ◌∙◌}
-use Rattle.mq_topic.specs.Matching.{levels_left}
+use Rattle.mq_topic.specs.Inside.Matching.{levels_left}
 use Rattle.mq_topic.proofs.Fitting.{fits-hash, fits-next, fits-other, fits-none, is_none-answer}
 use Rattle.mq_topic.proofs.matching.levels_fit.Goals as goal
 

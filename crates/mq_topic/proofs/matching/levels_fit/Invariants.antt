@@ -1,6 +1,7 @@
 use Rattle.std.proofs.Common.{◌≡◌, ◌+◌, ℕ, List, Bor, Option, Some, None, length}
 use Rattle.mq_topic.specs.Topic.{levels}
-use Rattle.mq_topic.specs.Matching.{fits, levels_left}
+use Rattle.mq_topic.specs.Matching.{fits}
+use Rattle.mq_topic.specs.Inside.Matching.{levels_left}
 use Rattle.mq_topic.proofs.matching.levels_fit.Given as goal
 
 -- The remaining levels match exactly if all do.

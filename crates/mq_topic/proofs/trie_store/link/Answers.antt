@@ -1,6 +1,7 @@
 use Rattle.std.proofs.Common.{Some, None, sym, subst}
 use Rattle.mq_topic.specs.Topic.{levels}
-use Rattle.mq_topic.specs.Tree.{IsTrieUpTo, Leads}
+use Rattle.mq_topic.specs.Tree.{Leads}
+use Rattle.mq_topic.specs.Inside.Tree.{IsTrieUpTo}
 use Rattle.mq_topic.specs.TrieView.{tree}
 use Rattle.mq_topic.proofs.Changes.{client_row, leads_after_client, no_row, off_root, set_is_trie, up_to_same}
 use Rattle.mq_topic.proofs.Placing.{on_err}

@@ -1,7 +1,8 @@
 use Rattle.std.proofs.Common.{◌≡◌, ◌+◌, ◌++◌, ℕ, List, Bor, Option, Some, None, length}
-use Rattle.mq_topic.specs.Matching.{levels_left}
+use Rattle.mq_topic.specs.Inside.Matching.{levels_left}
 use Rattle.mq_topic.specs.Topic.{levels}
-use Rattle.mq_topic.specs.Tree.{IsLinked, IsPlace, IsTrieOf, IsTrieUpTo, Leads, RowMap}
+use Rattle.mq_topic.specs.Tree.{IsLinked, IsPlace, IsTrieOf, Leads, RowMap}
+use Rattle.mq_topic.specs.Inside.Tree.{IsTrieUpTo}
 use Rattle.mq_topic.specs.TrieView.{tree}
 use Rattle.mq_topic.specs.declared.trie_nodes.NodeId.{NodeId}
 use Rattle.mq_topic.proofs.trie_walk.open.Given as goal

@@ -1,5 +1,6 @@
 use Rattle.std.proofs.Common.{Some, None, subst}
-use Rattle.mq_topic.specs.Tree.{IsPlace, IsTrieUpTo}
+use Rattle.mq_topic.specs.Tree.{IsPlace}
+use Rattle.mq_topic.specs.Inside.Tree.{IsTrieUpTo}
 use Rattle.mq_topic.specs.TrieView.{tree}
 use Rattle.mq_topic.proofs.Changes.{cut_up_to, trie_at_root, trie_at_used}
 use Rattle.mq_topic.proofs.Outcomes.{when_false, when_true}

@@ -1,5 +1,6 @@
 use Rattle.slab.specs.Slab.{slab_len}
-use Rattle.mq_topic.specs.Tree.{IsTrieUpTo, RowMap}
+use Rattle.mq_topic.specs.Tree.{RowMap}
+use Rattle.mq_topic.specs.Inside.Tree.{IsTrieUpTo}
 use Rattle.mq_topic.specs.TrieView.{tree}
 use Rattle.mq_topic.proofs.trie_walk.prune.Given as goal
 

@@ -1,6 +1,6 @@
 use Rattle.std.proofs.Common.{sym, ap, subst, ◌∙◌}
 use Rattle.mq_topic.specs.Inside.Found.{Entries, Gathers}
-use Rattle.mq_topic.specs.Matching.{levels_left}
+use Rattle.mq_topic.specs.Inside.Matching.{levels_left}
 use Rattle.mq_topic.specs.TrieView.{tree}
 use Rattle.mq_topic.proofs.Searching.{Matches, search_absent, search_first, search_shown}
 use Rattle.mq_topic.proofs.trie_walk.search.Goals.{then-begins_with_dollar+then-is_some+in_ok-walk, then-begins_with_dollar+else-is_some, else-begins_with_dollar+in_ok-walk-2}

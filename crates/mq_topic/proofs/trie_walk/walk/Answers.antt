@@ -1,6 +1,6 @@
 use Rattle.std.proofs.Common.{◌∷◌, [], ap, subst, ◌∙◌}
 use Rattle.mq_topic.specs.Inside.Found.{Finds}
-use Rattle.mq_topic.specs.Matching.{levels_left}
+use Rattle.mq_topic.specs.Inside.Matching.{levels_left}
 use Rattle.mq_topic.specs.TrieView.{tree}
 use Rattle.mq_topic.proofs.Outcomes.{when_ok}
 use Rattle.mq_topic.proofs.Walking.{IsWalked, walk_begins, walk_ends, walk_level, walk_rest}

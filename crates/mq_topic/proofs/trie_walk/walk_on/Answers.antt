@@ -2,7 +2,7 @@ use Rattle.std.proofs.Common.{◌≡◌, ◌∷◌, [], ℕ, List, Option, sym, 
 use Rattle.std.specs.Vec.{vec_len}
 use Rattle.std.proofs.lemmas.List.{nil_from_length}
 use Rattle.mq_topic.specs.Inside.Found.{Among, Finds, Gathers, IsAt, Steps}
-use Rattle.mq_topic.specs.Matching.{levels_left}
+use Rattle.mq_topic.specs.Inside.Matching.{levels_left}
 use Rattle.mq_topic.specs.Tree.{Tree}
 use Rattle.mq_topic.specs.TrieView.{child_of, tree}
 use Rattle.mq_topic.specs.declared.qos.Qos.{Qos}

@@ -1,6 +1,6 @@
 use Rattle.std.proofs.Common.{◌+◌, ℕ, List, Bor, Option, Some, None, length}
 use Rattle.mq_topic.specs.Inside.Found.{Among, Finds}
-use Rattle.mq_topic.specs.Matching.{levels_left}
+use Rattle.mq_topic.specs.Inside.Matching.{levels_left}
 use Rattle.mq_topic.specs.TrieView.{tree}
 use Rattle.mq_topic.proofs.Walking.{IsWalked}
 use Rattle.mq_topic.proofs.trie_walk.walk_on.Given as goal

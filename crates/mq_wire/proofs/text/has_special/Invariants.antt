@@ -1,6 +1,6 @@
 use Rattle.std.proofs.Common.{◌≡◌, take}
 use Rattle.std.specs.List.{list_any}
-use Rattle.mq_wire.specs.Text.{is_special}
+use Rattle.mq_wire.specs.Inside.Text.{is_special}
 use Rattle.mq_wire.proofs.text.has_special.Given as goal
 
 abbrev pub invariant-loop-byte : goal.invariant-loop-byte

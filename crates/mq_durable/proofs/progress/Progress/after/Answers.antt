@@ -2,7 +2,8 @@ use Rattle.std.proofs.Common.{◌<◌, ℕ, List, length, take, sym, subst, arit
 use Rattle.std.specs.declared.alloc.Global.{Global}
 use Rattle.mq_record.specs.Reading.{IsEntry}
 use Rattle.mq_route.specs.declared.event.HubEvent.{HubEvent}
-use Rattle.mq_durable.specs.Recorded.{events_in, events_in_all}
+use Rattle.mq_durable.specs.Recorded.{events_in}
+use Rattle.mq_durable.specs.Inside.Recorded.{events_in_all}
 use Rattle.mq_durable.specs.Recovering.{Continues}
 use Rattle.mq_durable.proofs.Recoveries.{continues_all, continues_none, in_all_push, in_none, readable_more}
 use Rattle.mq_durable.proofs.progress.Progress.after.Goals as goal

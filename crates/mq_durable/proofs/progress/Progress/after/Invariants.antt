@@ -1,5 +1,5 @@
 use Rattle.std.proofs.Common.{take}
-use Rattle.mq_durable.specs.Recorded.{AreReadable, events_in_all}
+use Rattle.mq_durable.specs.Inside.Recorded.{AreReadable, events_in_all}
 use Rattle.mq_durable.specs.Recovering.{Continues}
 use Rattle.mq_durable.proofs.progress.Progress.after.Given as goal
 

@@ -1,5 +1,6 @@
 use Rattle.std.proofs.Common.{List, ◌∙◌, ap, subst}
-use Rattle.mq_durable.specs.Recorded.{AreReadable, events_of}
+use Rattle.mq_durable.specs.Recorded.{events_of}
+use Rattle.mq_durable.specs.Inside.Recorded.{AreReadable}
 use Rattle.mq_route.specs.Hub.{HubState}
 use Rattle.mq_durable.specs.Recovering.{Continues, latest}
 use Rattle.mq_durable.specs.Replaying.{Replays}

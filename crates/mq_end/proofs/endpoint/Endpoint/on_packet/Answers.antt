@@ -1,5 +1,6 @@
 use Rattle.std.proofs.Common.{◌∙◌}
-use Rattle.mq_end.specs.Receiving.{gets_as, heard_as}
+use Rattle.mq_end.specs.Receiving.{gets_as}
+use Rattle.mq_end.specs.Inside.Receiving.{heard_as}
 use Rattle.mq_end.proofs.OnePacket.{arrived, shows_one}
 use Rattle.mq_end.proofs.endpoint.Endpoint.on_packet.Goals as goal
 

@@ -5,7 +5,8 @@ use Rattle.mq_end.specs.declared.reason.CloseReason.{CloseReason}
 use Rattle.mq_end.specs.declared.reason.CloseReason.TheVariants as reasons
 use Rattle.mq_end.specs.declared.progress_builder.ProgressBuilder.{ProgressBuilder}
 use Rattle.mq_end.specs.State.{EndState}
-use Rattle.mq_end.specs.Receiving.{Hears, TakesNext}
+use Rattle.mq_end.specs.Receiving.{Hears}
+use Rattle.mq_end.specs.Inside.Receiving.{TakesNext}
 use Rattle.mq_end.proofs.Along.{closes_made}
 use Rattle.mq_end.proofs.Walking.{Walked, came_of, next_held, next_taken, walked_none, walked_more, walked_shut, walked_all, walked_starved, walked_broken, walked_whole}
 use Rattle.mq_end.proofs.endpoint.Endpoint.take_bytes.Goals as goal

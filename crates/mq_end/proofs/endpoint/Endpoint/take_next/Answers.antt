@@ -2,7 +2,7 @@ use Rattle.std.proofs.Common.{◌≡◌, ◌≤◌, ◌++◌, [], length, take, 
 use Rattle.mq_decode.specs.Grammar.{ReadsWithin}
 use Rattle.mq_end.specs.declared.progress_builder.ProgressBuilder.{ProgressBuilder}
 use Rattle.mq_end.specs.State.{EndState}
-use Rattle.mq_end.specs.Receiving.{TakesNext}
+use Rattle.mq_end.specs.Inside.Receiving.{TakesNext}
 use Rattle.mq_end.proofs.Walking.{came_next}
 use Rattle.mq_end.proofs.endpoint.Endpoint.take_next.Goals as goal
 

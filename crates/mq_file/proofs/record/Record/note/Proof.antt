@@ -26,7 +26,7 @@ use denote.Triple.Spec.{Meets, triple_of}
 use denote.Triple.Table.{entered}
 use denote.Triple.Walked.{says, Stays, stay_ref, walk_of, AllGo, Goes-ref, Walks, ends_at, walked, walk_Meets}
 use Rattle.mq_file.specs.declared.record.Record.{Record}
-use Rattle.mq_file.specs.History.{call_of}
+use Rattle.mq_file.specs.Inside.History.{call_of}
 use Rattle.mq_file.specs.contracts.record.Record as T
 use Rattle.mq_file.specs.contracts.record.Record.note.Key.{name as #it}
 use Rattle.mq_file.specs.contracts.record.Record.note as it

@@ -1,5 +1,6 @@
 use Rattle.std.proofs.lemmas.Result.{on_ok_weaker}
-use Rattle.mq_flow.specs.Saved.{AreWithin, IsSenderWithin}
+use Rattle.mq_flow.specs.Saved.{AreWithin}
+use Rattle.mq_flow.specs.Inside.Saved.{IsSenderWithin}
 use Rattle.mq_flow.proofs.Live.{sender_within}
 use Rattle.std.proofs.Common.{subst, arith}
 use Rattle.mq_flow.specs.Held.{book_of}

@@ -1,5 +1,5 @@
 use Rattle.std.proofs.Common.{◌≡◌, ◌∙◌, ap, arith}
-use Rattle.mq_flow.specs.Held.{bytes_found, bytes_under}
+use Rattle.mq_flow.specs.Inside.Held.{bytes_found, bytes_under}
 use Rattle.mq_flow.proofs.StoredBytes.{bytes_taken}
 use Rattle.mq_flow.proofs.table.Table.bytes_of.Goals as goal
 

@@ -2,7 +2,8 @@ use Rattle.std.proofs.Common.{◌≡◌, ℕ, ◌≤◌, ◌-◌, ◌∙◌, Lis
 use Rattle.std.specs.Option.{option_map}
 use Rattle.std.specs.HashMap.{get, hash_map_len}
 use Rattle.mq_flow.specs.declared.table.Held.{Held}
-use Rattle.mq_flow.specs.Held.{Kept, gone_out, pairs_in}
+use Rattle.mq_flow.specs.Held.{Kept, pairs_in}
+use Rattle.mq_flow.specs.Inside.Held.{gone_out}
 use Rattle.mq_flow.proofs.Slots.{marked_placed, pairs_marked, length_marked}
 use Rattle.mq_flow.proofs.StoredBytes.{counted_gone}
 use Rattle.mq_flow.proofs.table.Table.mark_all.Goals as goal

@@ -2,7 +2,8 @@ use Rattle.std.proofs.Common.{◌≡◌, ℕ, ◌≤◌, ◌-◌, ◌∙◌, IsS
 use Rattle.std.proofs.lemmas.List.{length-append}
 use Rattle.std.specs.Map.{lookup, remove_entry}
 use Rattle.mq_flow.specs.declared.table.Held.TheVariants.{Released}
-use Rattle.mq_flow.specs.Held.{Kept, bytes_under, messages, pairs_in}
+use Rattle.mq_flow.specs.Held.{Kept, messages, pairs_in}
+use Rattle.mq_flow.specs.Inside.Held.{bytes_under}
 use Rattle.mq_flow.specs.Stored.{AreCounted}
 use Rattle.mq_flow.proofs.Slots.{length_turned}
 use Rattle.mq_flow.proofs.StoredBytes.{counted_released}

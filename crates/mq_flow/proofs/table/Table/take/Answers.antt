@@ -1,5 +1,6 @@
 use Rattle.std.proofs.Common.{◌≡◌, ℕ, ◌-◌, ◌∙◌, length, sym, ap, subst, arith}
-use Rattle.mq_flow.specs.Held.{Kept, bytes_found, bytes_under, messages, pairs_in}
+use Rattle.mq_flow.specs.Held.{Kept, messages, pairs_in}
+use Rattle.mq_flow.specs.Inside.Held.{bytes_found, bytes_under}
 use Rattle.mq_flow.specs.Stored.{AreCounted}
 use Rattle.mq_flow.proofs.Slots.{length_removed}
 use Rattle.mq_flow.proofs.StoredBytes.{bytes_taken, counted_taken}

@@ -1,6 +1,6 @@
 use Rattle.std.proofs.Common.{◌∙◌, sym, ap}
 use Rattle.mq_route.specs.Hub.{HubState, knows, waiting_on}
-use Rattle.mq_route.specs.Step.{collected}
+use Rattle.mq_route.specs.Step.{on_collect}
 use Rattle.mq_tables.proofs.FirstPackets.{err_by, if_ok_by, ok_by}
 use Rattle.mq_hub.proofs.OutputView.{own_bytes_as, own_err, own_keeps, own_taken, up_bytes, up_err, up_keeps, up_taken}
 use Rattle.mq_hub.proofs.TakenOutput.{backed_at}
@@ -30,7 +30,7 @@ pub returns-in-Some-clause-taken : goal.returns-in-Some-clause-taken
 returns-in-Some-clause-taken g c =
     let h = c.self.inside in
     let a = c.collect_up.ensures.collects in
-    ok_by c.collect_up.result (λ is. is ∙ ap (collected c.args.conn) c.self.view_is)
+    ok_by c.collect_up.result (λ is. is ∙ ap (on_collect c.args.conn) c.self.view_is)
     (up_taken h.config h.next_key c.in-Some.key a.session a.end h.tables c.collect_up.new.self a.there c.self.invariant c.collect_up.ensures.rest a.after h.clock c.args.conn (sym c.in-Some.ensures)
     c.collect_up.result a.collects)
 
@@ -64,7 +64,7 @@ pub returns-in-None-clause-taken : goal.returns-in-None-clause-taken
 returns-in-None-clause-taken g c =
     let h = c.self.inside in
     let e = c.collect_own.ensures in
-    ok_by c.collect_own.result (λ is. is ∙ ap (collected c.args.conn) c.self.view_is)
+    ok_by c.collect_own.result (λ is. is ∙ ap (on_collect c.args.conn) c.self.view_is)
     (own_taken h.config h.next_key c.args.conn h.tables c.collect_own.new.self c.self.invariant e.rest h.clock (sym c.in-None.ensures) c.collect_own.result e.taken)
 
 pub returns-in-None-clause-err : goal.returns-in-None-clause-err

@@ -18,14 +18,14 @@ returns-in_default-clause-goes g c =
           (is_fresh s c.requires.open (c.requires.key ∙ none_of c.args.up c.in_default.not-Some)) goes.1,
     )) c.on_first_packet.ensures.goes
 
-pub take_publish-requires-clause-within : goal.take_publish-requires-clause-within
-take_publish-requires-clause-within g c =
+pub on_publish-requires-clause-within : goal.on_publish-requires-clause-within
+on_publish-requires-clause-within g c =
     publish_within c.size_laws.ensures c.args.self.now.config.limits.most c.args.packet c.requires.within c.in-Publish.publish c.in-Publish.is c.delivery.ensures.fits
 
 pub returns-in-Publish-clause-goes : goal.returns-in-Publish-clause-goes
 returns-in-Publish-clause-goes g c =
-    dispatched c.take_publish.result c.args.conn c.in-Some.key c.args.packet _ (stage_of c.args.conn c.args.self.now.connections) c.args.self.now
-    c.take_publish.new.self c.args.log.now.acts c.take_publish.new.log.acts (c.requires.key ∙ c.in-Some.is) c.in-Publish.is c.take_publish.ensures.goes
+    dispatched c.on_publish.result c.args.conn c.in-Some.key c.args.packet _ (stage_of c.args.conn c.args.self.now.connections) c.args.self.now
+    c.on_publish.new.self c.args.log.now.acts c.on_publish.new.log.acts (c.requires.key ∙ c.in-Some.is) c.in-Publish.is c.on_publish.ensures.goes
 
 pub take_subscribe-requires-clause-up : goal.take_subscribe-requires-clause-up
 take_subscribe-requires-clause-up g c = up_where c.args.conn c.in-Some.key c.args.self.now.connections (c.requires.key ∙ c.in-Some.is)

@@ -31,8 +31,8 @@ returns-clause-goes g c = λ m config clock next_key is keeps settles.
     let s = c.args.plan in
     let t = c.args.tables.now in
     delivered config clock next_key _ t c.args.log.now.acts c.push_all.new.log.acts c.args.act m s.copies.items s.acts.items
-    c.place_all.new.sessions.list c.retain_planned.new.self.messages c.tables.view_is (c.retain_planned.ensures.messages m is) (can_place config next_key t keeps)
-    settles (all_placeable 0 t.sessions.list s.copies.items c.requires.ready.ready) c.place_all.ensures.list
+    c.enqueue_all.new.sessions.list c.retain_planned.new.self.messages c.tables.view_is (c.retain_planned.ensures.messages m is) (can_place config next_key t keeps)
+    settles (all_placeable 0 t.sessions.list s.copies.items c.requires.ready.ready) c.enqueue_all.ensures.list
     (c.push_all.ensures.acts ∙ ap (λ (said : List Act). said ++ s.acts.items) c.push.ensures.acts)
 
 pub returns-clause-keeps : goal.returns-clause-keeps
@@ -41,4 +41,4 @@ returns-clause-keeps g c = λ m config next_key is keeps within.
     kept_shared config next_key m s.copies.items c.args.tables.now _ keeps within c.requires.ready.apart c.requires.ready.ready
     (ap (λ (v : HubTables). v.rows) c.tables.view_is) (ap (λ (v : HubTables). v.connections) c.tables.view_is)
     (c.retain_planned.ensures.messages m is ∙ ap (λ (v : HubTables). kept m v.retained.messages) c.tables.view_is)
-    (c.place_all.ensures.list ∙ ap (λ (v : HubTables). placed_all s.copies.items v.sessions.list) c.tables.view_is)
+    (c.enqueue_all.ensures.list ∙ ap (λ (v : HubTables). placed_all s.copies.items v.sessions.list) c.tables.view_is)

@@ -1,5 +1,5 @@
 use Rattle.std.proofs.Common.{◌≡◌}
-use Rattle.mq_loop.specs.Calls.{ReadsOf}
+use Rattle.mq_loop.specs.Inside.Calls.{ReadsOf}
 use Rattle.mq_loop.proofs.event_loop.EventLoop.hear.Given as goal
 
 abbrev pub invariant-loop : goal.invariant-loop

@@ -1,6 +1,7 @@
 use Rattle.std.proofs.Common.{nat_eq, subst}
 use Rattle.std.specs.HashMap.{get}
-use Rattle.mq_loop.specs.Rounds.{AreBounded, AreEnded, IsEmpty, WatchedState}
+use Rattle.mq_loop.specs.Rounds.{AreBounded, IsEmpty, WatchedState}
+use Rattle.mq_loop.specs.Inside.Rounds.{AreEnded}
 use Rattle.mq_loop.proofs.Watching.{bounded_is}
 use Rattle.mq_loop.proofs.watched.Watched.check_settled.Goals as goal
 

@@ -1,6 +1,7 @@
 use Rattle.std.proofs.Common.{◌≡◌, ◌<◌, true, false}
-use Rattle.mq_loop.specs.Calls.{Quietly}
-use Rattle.mq_loop.specs.Rounds.{connections_in, ends_left}
+use Rattle.mq_loop.specs.Inside.Calls.{Quietly}
+use Rattle.mq_loop.specs.Rounds.{connections_in}
+use Rattle.mq_loop.specs.Inside.Rounds.{ends_left}
 use Rattle.mq_loop.proofs.watched.Watched.end_all.Given as goal
 
 abbrev pub invariant-loop-is_ended : goal.invariant-loop-is_ended

@@ -1,6 +1,6 @@
 use Rattle.std.proofs.Common.{◌≡◌, true}
 use Rattle.mq_loop.specs.Calls.{Collecting}
-use Rattle.mq_loop.specs.Places.{count_in}
+use Rattle.mq_loop.specs.Inside.Places.{count_in}
 use Rattle.mq_loop.specs.Rounds.{connections_in}
 use Rattle.mq_loop.proofs.watched.Watched.give_all.Given as goal
 

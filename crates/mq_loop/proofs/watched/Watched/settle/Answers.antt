@@ -1,5 +1,5 @@
 use Rattle.std.proofs.Common.{◌∙◌, ap, subst}
-use Rattle.mq_loop.specs.Calls.{Quietly}
+use Rattle.mq_loop.specs.Inside.Calls.{Quietly}
 use Rattle.mq_loop.specs.Rounds.{WatchedState}
 use Rattle.mq_loop.proofs.Calling.{quiet_then}
 use Rattle.mq_loop.proofs.watched.Watched.settle.Goals as goal

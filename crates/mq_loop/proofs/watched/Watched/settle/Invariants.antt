@@ -1,5 +1,5 @@
 use Rattle.std.proofs.Common.{◌≡◌, true}
-use Rattle.mq_loop.specs.Calls.{Quietly}
+use Rattle.mq_loop.specs.Inside.Calls.{Quietly}
 use Rattle.mq_loop.specs.Rounds.{IsEmpty, connections_in}
 use Rattle.mq_loop.proofs.watched.Watched.settle.Given as goal
 

@@ -1,5 +1,5 @@
 use Rattle.std.proofs.Common.{◌≡◌}
-use Rattle.mq_pubsub_runs.specs.Posting.{Fills, Remembers}
+use Rattle.mq_pubsub_runs.specs.Inside.Posting.{Fills, Remembers}
 use Rattle.mq_pubsub_runs.proofs.outbox.Outbox.fill.Given as goal
 
 abbrev pub invariant-loop : goal.invariant-loop

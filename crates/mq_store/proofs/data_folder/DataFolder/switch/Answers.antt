@@ -1,7 +1,8 @@
 use Rattle.std.proofs.Common.{List, ℕ, Some, ap, string_bytes, ◌∙◌}
 use Rattle.mq_file.specs.FolderHistory.{files_after}
 use Rattle.mq_file.specs.Named.{IsEitherPair, IsSwitched, Throughout}
-use Rattle.mq_store.specs.Continued.{journal_path, next_path, snapshot_path}
+use Rattle.mq_store.specs.Continued.{journal_path, snapshot_path}
+use Rattle.mq_store.specs.Inside.Continued.{next_path}
 use Rattle.mq_store.proofs.Continuing.{at_names}
 use Rattle.mq_store.proofs.data_folder.DataFolder.switch.Goals as goal
 

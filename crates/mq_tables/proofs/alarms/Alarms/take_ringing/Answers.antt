@@ -1,6 +1,7 @@
 use Rattle.std.proofs.Common.{◌≡◌, ◌∙◌, List, false, subst}
 use Rattle.mq_route.specs.declared.conn.Conn.{Conn}
-use Rattle.mq_tables.specs.Alarms.{AlarmTable, IsQuiet, is_named}
+use Rattle.mq_tables.specs.Alarms.{AlarmTable, IsQuiet}
+use Rattle.mq_tables.specs.Inside.Alarms.{is_named}
 use Rattle.mq_tables.proofs.RingTimes.{named_parts}
 use Rattle.mq_tables.proofs.alarms.Alarms.take_ringing.Goals as goal
 

@@ -1,6 +1,7 @@
 use Rattle.std.proofs.Common.{◌≡◌, ℕ, false, length}
 use Rattle.mq_route.specs.declared.conn.Conn.{Conn}
-use Rattle.mq_tables.specs.Alarms.{IsQuiet, is_named}
+use Rattle.mq_tables.specs.Alarms.{IsQuiet}
+use Rattle.mq_tables.specs.Inside.Alarms.{is_named}
 use Rattle.mq_tables.proofs.alarms.Alarms.take_ringing.Given as goal
 
 abbrev pub invariant-loop-conn : goal.invariant-loop-conn

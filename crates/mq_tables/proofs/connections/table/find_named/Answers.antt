@@ -2,9 +2,9 @@ use Rattle.std.proofs.Common.{◌≡◌, ◌++◌, ◌∷◌, [], List, ℕ, ari
 use Rattle.std.proofs.lemmas.List.Elements.{Contains-append_left, Contains-push}
 use Rattle.std.specs.List.{Contains}
 use Rattle.mq_route.specs.declared.conn.Conn.{Conn}
-use Rattle.mq_tables.specs.Alarms.{AreAwaitedBut}
+use Rattle.mq_tables.specs.Inside.Alarms.{AreAwaitedBut}
 use Rattle.mq_tables.specs.Connections.{connections_of}
-use Rattle.mq_tables.specs.Late.{HasLateBut}
+use Rattle.mq_tables.specs.Inside.Late.{HasLateBut}
 use Rattle.mq_tables.proofs.RingTimes.{awaited_again, late_all, late_named, late_none, late_one, none_early, none_less, not_found, one_less}
 use Rattle.mq_tables.proofs.connections.table.find_named.Goals as goal
 

@@ -1,7 +1,7 @@
 use Rattle.std.proofs.Common.{vec_len}
-use Rattle.mq_tables.specs.Alarms.{AreAwaitedBut}
+use Rattle.mq_tables.specs.Inside.Alarms.{AreAwaitedBut}
 use Rattle.mq_tables.specs.Connections.{connections_of}
-use Rattle.mq_tables.specs.Late.{HasLateBut}
+use Rattle.mq_tables.specs.Inside.Late.{HasLateBut}
 use Rattle.mq_tables.proofs.connections.table.find_named.Given as goal
 
 abbrev pub invariant-loop-conn : goal.invariant-loop-conn

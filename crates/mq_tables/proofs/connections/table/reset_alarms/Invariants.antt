@@ -2,7 +2,8 @@ use Rattle.std.proofs.Common.{◌+◌, ◌≤◌, length}
 use Rattle.std.specs.List.{AllByRecursion}
 use Rattle.indexmap.specs.IndexMap.{values}
 use Rattle.mq_tables.specs.declared.connections.connection.Connection.{Connection}
-use Rattle.mq_tables.specs.Alarms.{AlarmTable, IsAwaited, RingsWith}
+use Rattle.mq_tables.specs.Alarms.{AlarmTable, IsAwaited}
+use Rattle.mq_tables.specs.Inside.Alarms.{RingsWith}
 use Rattle.mq_tables.proofs.connections.table.reset_alarms.Given as goal
 
 -- if those to come are awaited, all are

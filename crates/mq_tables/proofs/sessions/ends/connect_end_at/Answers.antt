@@ -1,6 +1,6 @@
 use Rattle.std.proofs.Common.{◌≡◌, ◌∙◌, ◌<◌, [], ℕ, Option, Some, is_some, length, get_or, slice_set, sym, ap, subst}
 use Rattle.std.specs.Option.{IfSome}
-use Rattle.mq_end.specs.Ready.{HasRise}
+use Rattle.mq_end.specs.Ready.{HasConnectRoom}
 use Rattle.mq_tables.specs.declared.sessions.session.BrokerSession.{BrokerSession}
 use Rattle.mq_tables.specs.Connecting.{connected_end}
 use Rattle.mq_tables.specs.Sessions.{with_server}
@@ -19,7 +19,7 @@ connect_end-requires c =
     let d = c.index-list-at.result in
     let here = in_place c.args.key ts d c.requires.ascending (ap is_some c.requires.ready.there) in
     let is = some_same (sym c.requires.ready.there ∙ here.here ∙ ap (λ (n : ℕ). Some (get_or ts n d)) (sym c.place-at.ensures.value)) in
-    subst (λ (x : BrokerSession). HasRise c.args.connect [] 0 x.end) is c.requires.ready.connect_end
+    subst (λ (x : BrokerSession). HasConnectRoom c.args.connect [] 0 x.end) is c.requires.ready.connect_end
 
 pub returns : goal.returns
 returns c =

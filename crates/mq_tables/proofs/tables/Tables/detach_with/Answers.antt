@@ -33,4 +33,4 @@ returns-clause-connections g c =
 
 pub returns-clause-connect_end : goal.returns-clause-connect_end
 returns-clause-connect_end g c = λ connect ms more h.
-    c.leave.ensures.connect_end connect ms more (subst (λ (v : HubTables). HasConnectRoomAt connect c.args.key ms more v.sessions.list) (sym c.self.view_is) h)
+    c.lose_connection.ensures.connect_end connect ms more (subst (λ (v : HubTables). HasConnectRoomAt connect c.args.key ms more v.sessions.list) (sym c.self.view_is) h)

@@ -2,7 +2,8 @@ use Rattle.std.proofs.Common.{Some, ap, sym, ◌∙◌}
 use Rattle.std.specs.Arc.{arc_str_bytes}
 use Rattle.std.specs.Option.{option_or}
 use Rattle.std.specs.String.{string_bytes}
-use Rattle.mq_topic.specs.NodeView.{child_collided, child_numbered, is_own, own_child}
+use Rattle.mq_topic.specs.NodeView.{child_collided, child_numbered, own_child}
+use Rattle.mq_topic.specs.Inside.NodeView.{is_own}
 use Rattle.mq_topic.specs.LevelNumber.{level_number}
 use Rattle.mq_topic.specs.declared.level_map.Child.{Child}
 use Rattle.mq_topic.proofs.Mapping.{other_child, other_numbered, other_text, put_numbered}

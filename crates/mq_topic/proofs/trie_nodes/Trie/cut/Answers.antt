@@ -1,7 +1,7 @@
 use Rattle.std.proofs.Common.{None, sym, refl, ap, subst}
 use Rattle.std.specs.Option.{option_map}
 use Rattle.std.specs.Arc.{arc_str_bytes}
-use Rattle.mq_topic.specs.Tree.{ChildIs}
+use Rattle.mq_topic.specs.Inside.Tree.{ChildIs}
 use Rattle.mq_topic.specs.TrieView.{link_in, tree}
 use Rattle.mq_topic.specs.declared.trie_nodes.Trie.{Trie}
 use Rattle.mq_topic.proofs.Nodes.{cut_is}

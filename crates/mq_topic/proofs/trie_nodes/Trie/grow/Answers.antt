@@ -1,5 +1,5 @@
 use Rattle.std.proofs.Common.{refl, subst, ◌∙◌}
-use Rattle.mq_topic.specs.Tree.{ChildIs}
+use Rattle.mq_topic.specs.Inside.Tree.{ChildIs}
 use Rattle.mq_topic.specs.TrieView.{tree}
 use Rattle.mq_topic.specs.declared.clients.Clients.TheVariants.{Nobody}
 use Rattle.mq_topic.specs.declared.trie_nodes.Node.{Node}

@@ -1,6 +1,7 @@
 use Rattle.std.proofs.Common.{sym, ◌∙◌}
 use Rattle.mq_topic.specs.Rows.{row_qos, without_client}
-use Rattle.mq_topic.specs.Tree.{RowMap, without_all}
+use Rattle.mq_topic.specs.Tree.{RowMap}
+use Rattle.mq_topic.specs.Inside.Tree.{without_all}
 use Rattle.mq_topic.specs.TrieView.{tree}
 use Rattle.mq_topic.proofs.Changes.{trie_rows}
 use Rattle.mq_topic.proofs.Leaving.{no_rows}

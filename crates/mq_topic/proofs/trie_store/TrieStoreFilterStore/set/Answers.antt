@@ -1,6 +1,7 @@
 use Rattle.std.proofs.Common.{◌≡◌, None, sym, subst}
 use Rattle.mq_topic.specs.Rows.{row_qos, with_row}
-use Rattle.mq_topic.specs.Tree.{RowMap, row_with, without}
+use Rattle.mq_topic.specs.Tree.{RowMap, without}
+use Rattle.mq_topic.specs.Inside.Tree.{row_with}
 use Rattle.mq_topic.specs.TrieView.{tree}
 use Rattle.mq_topic.proofs.Changes.{set_undone, trie_rows}
 use Rattle.mq_topic.proofs.Placing.{on_err}

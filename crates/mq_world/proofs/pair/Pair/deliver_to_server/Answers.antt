@@ -1,7 +1,7 @@
 use Rattle.std.proofs.Common.{not, ◌&&◌, nat_lt, length, ◌++◌, refl, ap, ◌∙◌}
 use Rattle.mq_end.specs.End.{is_live}
 use Rattle.mq_world.specs.declared.side.Side.TheVariants.{Server}
-use Rattle.mq_world.specs.declared.answer.Delivery.{Delivery}
+use Rattle.mq_world.specs.declared.answer.DeliveredBytes.{DeliveredBytes}
 use Rattle.mq_world.specs.Carries.{Wired}
 use Rattle.mq_world.specs.OverBytes.{left_on}
 use Rattle.mq_world.specs.Pairs.{wired_of}
@@ -25,7 +25,7 @@ returns-clause-delivered c = λ limit capacity m s.
         freed = a.freed.items;
       };
     } in
-    let d : Delivery = record { side = Server; bytes = c.in_ok-bytes.bytes; lost = c.is_lost-lost.result; progress = c.receive-progress.result } in
+    let d : DeliveredBytes = record { side = Server; bytes = c.in_ok-bytes.bytes; lost = c.is_lost-lost.result; progress = c.receive-progress.result } in
     heard_at c.over_bytes.ensures limit capacity Server w v m c.args.count d c.as_slice.result.now c.receive-progress.new.self c.take_all_output-output.result s
     refl c.in_ok-bytes.ensures.bytes c.as_slice.ensures
     (c.is_lost-lost.ensures ∙ (λ i. not ((c.is_live-live.ensures ∙ ap is_live c.state.ensures) i) && nat_lt 0 (length (c.as_slice-2.ensures i))))

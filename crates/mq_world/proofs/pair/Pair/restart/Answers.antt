@@ -1,7 +1,7 @@
 use Rattle.std.proofs.Common.{ℕ, ◌≤◌, Option, sym, ap, subst, ◌∙◌, arith}
 use Rattle.std.specs.List.{All}
 use Rattle.mq_decode.specs.Limits.{Bounds}
-use Rattle.mq_flow.specs.declared.entry.Entry.{Entry}
+use Rattle.mq_flow.specs.declared.entry.SenderEntry.{SenderEntry}
 use Rattle.mq_flow.specs.Saved.{AreWithin}
 use Rattle.mq_end.specs.End.{End, is_live, over, resumed}
 use Rattle.mq_end.specs.Publishing.{ClientState}
@@ -33,8 +33,8 @@ made_anew-requires-clause-saves c =
 pub made_anew-requires-clause-loads : goal.made_anew-requires-clause-loads
 made_anew-requires-clause-loads c =
     let s = c.requires.stands in
-    subst (λ (n : Bounds). All (λ (e : Entry). publish_size e.message ≤ n.most) c.dropped.new.self.link.end.book.entries) (sym c.in-Ok.ensures.limits)
-    (subst (λ (e : End). All (λ (e : Entry). publish_size e.message ≤ c.args.terms.limits.most) e.book.entries) (sym c.dropped.ensures.end)
+    subst (λ (n : Bounds). All (λ (e : SenderEntry). publish_size e.message ≤ n.most) c.dropped.new.self.link.end.book.entries) (sym c.in-Ok.ensures.limits)
+    (subst (λ (e : End). All (λ (e : SenderEntry). publish_size e.message ≤ c.args.terms.limits.most) e.book.entries) (sym c.dropped.ensures.end)
     (can_be_loaded c.args.terms.limits c.args.terms.capacity (wired_of c.args.self.now) s.0 s.1))
 
 pub returns-clause-does : goal.returns-clause-does

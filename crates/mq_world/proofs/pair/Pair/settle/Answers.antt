@@ -1,5 +1,5 @@
 use Rattle.std.proofs.Common.{◌+◌, List, take, refl, sym, subst, ◌∙◌, arith}
-use Rattle.mq_world.specs.declared.answer.Delivery.{Delivery}
+use Rattle.mq_world.specs.declared.answer.DeliveredBytes.{DeliveredBytes}
 use Rattle.mq_world.specs.Pairs.{wired_of}
 use Rattle.mq_world.specs.World.{InTurn, exchanges}
 use Rattle.mq_world.proofs.Worlds.{stands_turned, turn_next}
@@ -14,7 +14,7 @@ loop-side-preserved c = record {
       let before = c.loop-side.invariant.turns limit capacity m s in
       let g = stands_turned c.over_bytes.ensures limit capacity (take c.loop-side.side-index exchanges) c.loop-side.deliveries.items start now m s before in
       let come = c.in_ok-delivery.ensures.delivered limit capacity g.0 g.1 in
-      subst (λ (ds : List Delivery). InTurn limit capacity (take (c.loop-side.side-index + 1) exchanges) ds start (wired_of c.deliver_all.new.self))
+      subst (λ (ds : List DeliveredBytes). InTurn limit capacity (take (c.loop-side.side-index + 1) exchanges) ds start (wired_of c.deliver_all.new.self))
       (sym c.in_ok-push.ensures.items)
       (turn_next limit capacity exchanges c.loop-side.side-index c.loop-side.deliveries.items _ _ c.in_ok-delivery.delivery start now
       (wired_of c.deliver_all.new.self) (omega arith) refl before come);

@@ -1,6 +1,6 @@
 use Rattle.std.proofs.Common.{List, eqb, sym, subst}
 use Rattle.std.specs.HashMap.{get, hash_map_len}
-use Rattle.mq_tables.specs.Alarms.{AreAwaited}
+use Rattle.mq_tables.specs.Inside.Alarms.{AreAwaited}
 use Rattle.mq_tables.specs.Connections.{service, AreConnections}
 use Rattle.mq_tables.proofs.ConnectionTable.{Entry, awaited_of, kept_anew, kept_found}
 use Rattle.mq_tables.proofs.connections.table.Connections.reserve.Goals as goal

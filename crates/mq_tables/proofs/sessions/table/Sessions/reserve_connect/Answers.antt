@@ -3,7 +3,8 @@ use Rattle.std.specs.HashMap.{get}
 use Rattle.std.specs.Str.{bytes_eq}
 use Rattle.mq_tables.specs.declared.sessions.session.BrokerSession.{BrokerSession}
 use Rattle.mq_tables.specs.Publishing.{AreSameButRoom, AreStillReady}
-use Rattle.mq_tables.specs.Connecting.{roomed, HasConnectRoomAt, IsEnlarged}
+use Rattle.mq_tables.specs.Connecting.{roomed, HasConnectRoomAt}
+use Rattle.mq_tables.specs.Inside.Connecting.{IsEnlarged}
 use Rattle.mq_tables.specs.Sessions.{AreSessions, SessionTable, with_server}
 use Rattle.mq_tables.proofs.FirstPackets.{ok_by}
 use Rattle.mq_tables.proofs.RoomToConnect.{enlarged_same, enlarged_still}

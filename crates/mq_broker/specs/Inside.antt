@@ -1,0 +1,4 @@
+-- Definitions that only the proofs of this crate need: no public contract cites them.
+pub mod Failures
+pub mod Missed
+pub mod Snapshots

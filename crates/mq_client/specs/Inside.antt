@@ -1,0 +1,4 @@
+-- Definitions that only the proofs of this crate need: no public contract cites them.
+pub mod Collecting
+pub mod Programs
+pub mod Publishing

@@ -1,0 +1,3 @@
+-- Definitions that only the proofs of this crate need: no public contract cites them.
+pub mod Grammar
+pub mod Options

@@ -1,0 +1,4 @@
+-- Definitions that only the proofs of this crate need: no public contract cites them.
+pub mod Continued
+pub mod Faults
+pub mod Restoring
