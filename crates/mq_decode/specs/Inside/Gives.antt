@@ -2,7 +2,6 @@
 -- definitions.
 use Rattle.std.specs.Prelude.{◌≡◌, Result, Ok, Err}
 use Rattle.mq_decode.specs.declared.fault.BadField.{BadField}
-use Rattle.mq_decode.specs.Gives.{pub}
 
 -- The result of a function, as contracts see it, is the result of reading.
 abbrev pub Same : {X Y : Type 0} → (X → Y) → Result X BadField → Result Y BadField → Type 0
