@@ -1,5 +1,6 @@
 //! When `tick` next does something (3.1.2.10).
 
+ghost use Rattle.std.specs.Prelude.{◌≡◌};
 ghost use Rattle.mq_end.specs.Prelude.{IsDeadline, is_late, is_overdue, pings};
 
 use crate::endpoint::Endpoint;
