@@ -24,7 +24,7 @@ use Rattle.mq_route.specs.Copies.{will_message}
 use Rattle.mq_route.specs.Hub.{HubState, HubConnection, changed, copies_of, end_of, is_connection, knows, stage_of, up_on, with_end, with_connection}
 use Rattle.mq_route.specs.Routed.{same_conn}
 use Rattle.mq_route.specs.Step.{OnTick, expire, expired_keys, has_passed, late_reason, remove_all, with_clock}
-use Rattle.mq_route.specs.Step.Ticks.{Done, InTime, Late}
+use Rattle.mq_route.specs.Step.OnTick.{Done, InTime, Late}
 use Rattle.mq_route.specs.Work.{Work, begin, close, does, have_room, is_missed, last_will, leaves_behind, enqueue, enqueue_all, publishes_next, put_on, put_where, remove, remove_if, said, deliver, shut, shut_down, will_after, with_sessions}
 use Rattle.mq_tables.specs.declared.sessions.session.BrokerSession.{BrokerSession}
 use Rattle.mq_tables.specs.Alarms.{is_late_on}
