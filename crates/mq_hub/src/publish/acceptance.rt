@@ -29,6 +29,6 @@ pub(crate) fn accept_publish<S: FilterStore>(
     ensures outputs { OnOk result (HaveQueued (Some (publish_answer key delivery)) tables.old.sessions.list tables.new.sessions.list) }
     ensures err { OnErr result (AreAlike tables.old tables.new) }
 {
-    let _ = tables.sessions.accept_publish(key, now, message, delivery)?;
+    let _ = tables.sessions.serve_publish(key, now, message, delivery)?;
     Ok(())
 }

@@ -47,13 +47,13 @@ accept_publish-requires-clause-stays g c =
 pub deliver-requires : goal.deliver-requires
 deliver-requires g c =
     let was = c.in_ok-reserve_delivery.ensures.ready (ap Ok c.if-not-branch.false) in
-    let a = c.in_ok-take_publish.ensures.ok in
+    let a = c.in_ok-accept_publish.ensures.ok in
     record {
       ready = record {
         named = was.named;
         apart = was.apart;
         retained = subst (λ (r : RetainedTable). 0 < r.room) (sym a.retained) was.retained;
-        ready = c.in_ok-take_publish.ensures.ready c.reserve_delivery.new.plan.copies.items was.ready;
+        ready = c.in_ok-accept_publish.ensures.ready c.reserve_delivery.new.plan.copies.items was.ready;
         room = was.room;
       };
     }
@@ -96,20 +96,20 @@ returns-then-not-branch-clause-closed g c = λ full conn fits new says goes.
     conn fits new c.args.log.now.acts says (sym room)
     (subst (λ (s : HubState). Refines (close conn TargetFull fits) s c.args.log.now.acts new says) (sym c.self.view_is) goes))
 
-pub invariant_of-self-in_err-take_publish : goal.invariant_of-self-in_err-take_publish
-invariant_of-self-in_err-take_publish g c =
+pub invariant_of-self-in_err-accept_publish : goal.invariant_of-self-in_err-accept_publish
+invariant_of-self-in_err-accept_publish g c =
     let h = c.self.inside in
     let on = on_seen h.config h.clock h.next_key h.tables c.args.self.now c.args.key c.self.view_is c.requires.up in
     kept_unhanded h.config h.clock h.next_key c.args.key h.tables c.reserve_delivery.new.tables c.self.invariant c.reserve_delivery.ensures.alike on.conn on.is c.args.publish
-    c.accept_publish.new.tables c.in_err-take_publish.ensures.err
+    c.accept_publish.new.tables c.in_err-accept_publish.ensures.err
 
-pub returns-in_err-take_publish-clause-err : goal.returns-in_err-take_publish-clause-err
-returns-in_err-take_publish-clause-err g c =
+pub returns-in_err-accept_publish-clause-err : goal.returns-in_err-accept_publish-clause-err
+returns-in_err-accept_publish-clause-err g c =
     let h = c.self.inside in
     let on = on_seen h.config h.clock h.next_key h.tables c.args.self.now c.args.key c.self.view_is c.requires.up in
-    err_any c.from_residual-in_err-take_publish.result
+    err_any c.from_residual-in_err-accept_publish.result
     (same_unhanded h.config h.clock h.next_key c.args.key h.tables c.reserve_delivery.new.tables c.self.invariant c.reserve_delivery.ensures.alike on.conn on.is c.args.publish
-    c.accept_publish.new.tables c.in_err-take_publish.ensures.err ∙ c.self.view_is)
+    c.accept_publish.new.tables c.in_err-accept_publish.ensures.err ∙ c.self.view_is)
 
 pub invariant_of-self-2 : goal.invariant_of-self-2
 invariant_of-self-2 g c =
@@ -121,7 +121,7 @@ invariant_of-self-2 g c =
     c.deliver.ensures.keeps m.message h.config h.next_key
     (subst (λ k. IsKeptOf m.message k) (sym c.reserve_delivery.ensures.kept) (subst (λ (n : Message). IsKeptOf n c.in_ok-plan.plan.kept) c.into_message-message.ensures c.in_ok-plan.ensures.kept))
     (kept_handed h.config h.clock h.next_key key h.tables c.reserve_delivery.new.tables c.self.invariant c.reserve_delivery.ensures.alike on.conn on.is m handed
-    c.accept_publish.new.tables (taken_as (publish_of c.into_message-message.result c.delivery-delivery.result) m c.args.key h.clock c.reserve_delivery.new.tables c.accept_publish.new.tables (same_publish c.args.publish c.into_message-message.result c.delivery-delivery.result c.into_message-message.ensures c.delivery-delivery.ensures.value) c.in_ok-take_publish.ensures.ok))
+    c.accept_publish.new.tables (taken_as (publish_of c.into_message-message.result c.delivery-delivery.result) m c.args.key h.clock c.reserve_delivery.new.tables c.accept_publish.new.tables (same_publish c.args.publish c.into_message-message.result c.delivery-delivery.result c.into_message-message.ensures c.delivery-delivery.ensures.value) c.in_ok-accept_publish.ensures.ok))
     (subst (λ (s : HubState). publish_size m.message ≤ s.config.limits.most) (sym c.self.view_is) c.requires.within)
 
 pub returns-clause-takes : goal.returns-clause-takes
@@ -138,19 +138,19 @@ returns-clause-takes g c = λ done conn fits.
     let s = c.in_ok-plan.plan in
     let on = on_seen h.config h.clock h.next_key t c.args.self.now key c.self.view_is c.requires.up in
     let handed = subst (λ (b : HubState). IsReceived New m (end_of key b.sessions)) (sym c.self.view_is) c.requires.handed in
-    let a = taken_as (publish_of c.into_message-message.result c.delivery-delivery.result) m key h.clock p u (same_publish c.args.publish c.into_message-message.result c.delivery-delivery.result c.into_message-message.ensures c.delivery-delivery.ensures.value) c.in_ok-take_publish.ensures.ok in
+    let a = taken_as (publish_of c.into_message-message.result c.delivery-delivery.result) m key h.clock p u (same_publish c.args.publish c.into_message-message.result c.delivery-delivery.result c.into_message-message.ensures c.delivery-delivery.ensures.value) c.in_ok-accept_publish.ensures.ok in
     let planned = subst (λ (n : Message). s.copies.items ≡ copies_of n old) c.into_message-message.ensures (c.in_ok-plan.ensures.copies h.config h.clock h.next_key) in
     let r = c.reserve_delivery.new.plan in
     let due : s.copies.items ≡ copies_of m.message here =
     planned ∙ sym (copies_handed h.config h.clock h.next_key key t p c.self.invariant c.reserve_delivery.ensures.alike on.conn on.is m handed u a) in
     let queued : HaveQueued (Some c.publish_answer.result) t.sessions.list u.sessions.list =
     subst (λ (a : QueuedAnswer). HaveQueued (Some a) t.sessions.list u.sessions.list) (sym c.publish_answer.ensures)
-    (λ k. c.in_ok-take_publish.ensures.outputs k
+    (λ k. c.in_ok-accept_publish.ensures.outputs k
     ∙ ap (λ (b : List ℕ). answer_for (Some (publish_answer key c.delivery-delivery.result)) k + length b) (room_same_output k t.sessions.list p.sessions.list c.reserve_delivery.ensures.alike.list)) in
     let settles : Settles h.config (λ k. 0) u.sessions.list (copies_of m.message here) r.copies.items r.acts.items =
     subst (λ (cs : List (ℕ × Message)). Settles h.config (λ k. 0) u.sessions.list cs r.copies.items r.acts.items) due
     (settles_alike h.config (Some c.publish_answer.result) t.sessions.list u.sessions.list s.copies.items r.copies.items r.acts.items c.in_ok-plan.ensures.planned.apart
-    (λ k. c.in_ok-take_publish.ensures.books k ∙ room_same_books t.sessions.list p.sessions.list c.reserve_delivery.ensures.alike.list k)
+    (λ k. c.in_ok-accept_publish.ensures.books k ∙ room_same_books t.sessions.list p.sessions.list c.reserve_delivery.ensures.alike.list k)
     queued
     (c.in_ok-reserve_delivery.ensures.settles (ap Ok c.if-not-branch.false) old (has_sessions h.config h.clock h.next_key t c.self.invariant) (sym c.rules_of-rules.ensures))) in
     let room : true ≡ have_room (copies_of m.message old) old =

@@ -16,9 +16,9 @@ returns-clause-ok g c =
     record {
       ready = c.args.tables.now.sessions.list;
       same = refl;
-      outcome = outcome_of c.in_ok-take_publish.field-0 m;
-      serves = subst (λ (r : Result PublishOutcome AllocError). ServesAt key call (told_of m r) c.args.tables.now.sessions.list c.accept_publish.new.self.list) c.in_ok-take_publish.was
-          (subst (λ (v : HubTables). ServesAt key call (told_of m c.accept_publish.result) v.sessions.list c.accept_publish.new.self.list) c.tables.view_is c.accept_publish.ensures.serves);
+      outcome = outcome_of c.in_ok-serve_publish.field-0 m;
+      serves = subst (λ (r : Result PublishOutcome AllocError). ServesAt key call (told_of m r) c.args.tables.now.sessions.list c.serve_publish.new.self.list) c.in_ok-serve_publish.was
+          (subst (λ (v : HubTables). ServesAt key call (told_of m c.serve_publish.result) v.sessions.list c.serve_publish.new.self.list) c.tables.view_is c.serve_publish.ensures.serves);
       rows = ap (λ (v : HubTables). v.rows) c.tables.view_is;
       retained = ap (λ (v : HubTables). v.retained) c.tables.view_is;
       connections = ap (λ (v : HubTables). v.connections) c.tables.view_is;
@@ -30,10 +30,10 @@ returns-clause-ready g c =
     let m = c.args.message.now in
     let p : Publication = record { message = m; delivery = c.args.delivery } in
     let call = publish_call c.args.now m c.args.delivery in
-    let serves : ServesAt key call (Ok (outcome_of c.in_ok-take_publish.field-0 m)) c.args.tables.now.sessions.list c.accept_publish.new.self.list =
-    subst (λ (r : Result PublishOutcome AllocError). ServesAt key call (told_of m r) c.args.tables.now.sessions.list c.accept_publish.new.self.list) c.in_ok-take_publish.was
-    (subst (λ (v : HubTables). ServesAt key call (told_of m c.accept_publish.result) v.sessions.list c.accept_publish.new.self.list) c.tables.view_is c.accept_publish.ensures.serves) in
-    all_ready key c.args.now p (outcome_of c.in_ok-take_publish.field-0 m) c.args.tables.now.sessions.list c.accept_publish.new.self.list serves
+    let serves : ServesAt key call (Ok (outcome_of c.in_ok-serve_publish.field-0 m)) c.args.tables.now.sessions.list c.serve_publish.new.self.list =
+    subst (λ (r : Result PublishOutcome AllocError). ServesAt key call (told_of m r) c.args.tables.now.sessions.list c.serve_publish.new.self.list) c.in_ok-serve_publish.was
+    (subst (λ (v : HubTables). ServesAt key call (told_of m c.serve_publish.result) v.sessions.list c.serve_publish.new.self.list) c.tables.view_is c.serve_publish.ensures.serves) in
+    all_ready key c.args.now p (outcome_of c.in_ok-serve_publish.field-0 m) c.args.tables.now.sessions.list c.serve_publish.new.self.list serves
     c.requires.can c.requires.stays
 
 pub returns-clause-books : goal.returns-clause-books
@@ -42,10 +42,10 @@ returns-clause-books g c =
     let m = c.args.message.now in
     let p : Publication = record { message = m; delivery = c.args.delivery } in
     let call = publish_call c.args.now m c.args.delivery in
-    let serves : ServesAt key call (Ok (outcome_of c.in_ok-take_publish.field-0 m)) c.args.tables.now.sessions.list c.accept_publish.new.self.list =
-    subst (λ (r : Result PublishOutcome AllocError). ServesAt key call (told_of m r) c.args.tables.now.sessions.list c.accept_publish.new.self.list) c.in_ok-take_publish.was
-    (subst (λ (v : HubTables). ServesAt key call (told_of m c.accept_publish.result) v.sessions.list c.accept_publish.new.self.list) c.tables.view_is c.accept_publish.ensures.serves) in
-    same_books key c.args.now p (outcome_of c.in_ok-take_publish.field-0 m) c.args.tables.now.sessions.list c.accept_publish.new.self.list serves
+    let serves : ServesAt key call (Ok (outcome_of c.in_ok-serve_publish.field-0 m)) c.args.tables.now.sessions.list c.serve_publish.new.self.list =
+    subst (λ (r : Result PublishOutcome AllocError). ServesAt key call (told_of m r) c.args.tables.now.sessions.list c.serve_publish.new.self.list) c.in_ok-serve_publish.was
+    (subst (λ (v : HubTables). ServesAt key call (told_of m c.serve_publish.result) v.sessions.list c.serve_publish.new.self.list) c.tables.view_is c.serve_publish.ensures.serves) in
+    same_books key c.args.now p (outcome_of c.in_ok-serve_publish.field-0 m) c.args.tables.now.sessions.list c.serve_publish.new.self.list serves
     c.requires.can c.requires.stays
 
 pub returns-clause-outputs : goal.returns-clause-outputs
@@ -54,8 +54,8 @@ returns-clause-outputs g c =
     let m = c.args.message.now in
     let p : Publication = record { message = m; delivery = c.args.delivery } in
     let call = publish_call c.args.now m c.args.delivery in
-    let serves : ServesAt key call (Ok (outcome_of c.in_ok-take_publish.field-0 m)) c.args.tables.now.sessions.list c.accept_publish.new.self.list =
-    subst (λ (r : Result PublishOutcome AllocError). ServesAt key call (told_of m r) c.args.tables.now.sessions.list c.accept_publish.new.self.list) c.in_ok-take_publish.was
-    (subst (λ (v : HubTables). ServesAt key call (told_of m c.accept_publish.result) v.sessions.list c.accept_publish.new.self.list) c.tables.view_is c.accept_publish.ensures.serves) in
-    queued key c.args.now p (outcome_of c.in_ok-take_publish.field-0 m) c.args.tables.now.sessions.list c.accept_publish.new.self.list serves
+    let serves : ServesAt key call (Ok (outcome_of c.in_ok-serve_publish.field-0 m)) c.args.tables.now.sessions.list c.serve_publish.new.self.list =
+    subst (λ (r : Result PublishOutcome AllocError). ServesAt key call (told_of m r) c.args.tables.now.sessions.list c.serve_publish.new.self.list) c.in_ok-serve_publish.was
+    (subst (λ (v : HubTables). ServesAt key call (told_of m c.serve_publish.result) v.sessions.list c.serve_publish.new.self.list) c.tables.view_is c.serve_publish.ensures.serves) in
+    queued key c.args.now p (outcome_of c.in_ok-serve_publish.field-0 m) c.args.tables.now.sessions.list c.serve_publish.new.self.list serves
     c.requires.can c.requires.stays
