@@ -53,7 +53,7 @@ fn will_messages<S: FilterStore>(
 
 // Closes the connection of a client for another one (3.1.4) without ending its session. Returns
 // the will to publish. Room to connect stays reserved.
-fn take_over_keeping<S: FilterStore>(
+fn close_taken_over<S: FilterStore>(
     tables: &mut Tables<S>,
     conn: Conn,
     key: ClientKey,
@@ -102,7 +102,7 @@ fn take_over_keeping<S: FilterStore>(
         → HasConnectRoomAt c key [] 0 tables.new.sessions.list }
     ensures room { log.old.room ≤ log.new.room + 2 }
 {
-    let will = take_over_keeping(tables, conn, key, waiting, log);
+    let will = close_taken_over(tables, conn, key, waiting, log);
     last_will(tables, alloc, rules, key, will, log);
     tables.mark_left(key, now);
 }

@@ -3,7 +3,7 @@ use Rattle.mq_route.specs.declared.close.HubClose.TheVariants.{TakenOver}
 use Rattle.mq_hub.specs.Inside.Close.{will_left}
 use Rattle.mq_hub.proofs.TakenOutput.{backed_at}
 use Rattle.mq_hub.proofs.TakeOverResume.{none_up_with, proceeds_with}
-use Rattle.mq_hub.proofs.connect.take_over_resume.take_over_keeping.Goals as goal
+use Rattle.mq_hub.proofs.connect.take_over_resume.close_taken_over.Goals as goal
 
 pub detach_with-stage-requires-clause-there : goal.detach_with-stage-requires-clause-there
 detach_with-stage-requires-clause-there g c =
