@@ -7,7 +7,7 @@ use Rattle.mq_tables.proofs.sessions.call.serve_publish.Goals as goal
 
 pub returns : goal.returns
 returns c =
-    let took = c.serve_publish in
+    let took = c.receive_publish in
     let m = c.args.message.now in
     let p : Packet = packets.Publish (record { message = m; delivery = c.args.delivery }) in
     let old = c.args.end.now in
