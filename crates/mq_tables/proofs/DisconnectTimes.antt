@@ -1,24 +1,19 @@
 -- A session stores the time of its client's last disconnect.
-use Rattle.std.proofs.Common.{◌≡◌, ℕ, suc, ◌+◌, ◌<◌, ◌≤◌, Bool, true, false, cond, List, [], ◌∷◌, length, set, Option, Some, None, is_some, refl, sym, ap, ap₂, subst, ◌∙◌, arith, eqb, ne_eqb, ltb}
-use Rattle.std.proofs.lemmas.Bool.{cond-true, cond-false, cond_both, ltb-true, ltb-false}
-use Rattle.std.specs.List.{AllByRecursion}
-use Rattle.std.specs.Str.{bytes_eq}
+use Rattle.std.proofs.Common.{◌≡◌, ℕ, ◌<◌, Bool, true, false, cond, List, [], ◌∷◌, Option, Some, None, is_some, refl, sym, ap, ap₂, subst, ◌∙◌, eqb}
+use Rattle.std.proofs.lemmas.Bool.{cond-true, cond-false, cond_both}
 use Rattle.mq_packet.specs.declared.connect.Connect.{Connect}
 use Rattle.mq_packet.specs.declared.message.Message.{Message}
 use Rattle.mq_end.specs.Ready.{HasConnectRoom}
 use Rattle.mq_route.specs.Hub.{HubSession, key_of, with_left}
 use Rattle.mq_tables.specs.declared.sessions.session.BrokerSession.{BrokerSession}
 use Rattle.mq_tables.specs.Connecting.{HasConnectRoomAt}
-use Rattle.mq_tables.specs.Sessions.{AreAscending, AreBelow, AreDistinct, AreSessions, marked_at, marking, session_at, session_of, sessions_of}
+use Rattle.mq_tables.specs.Sessions.{AreAscending, AreBelow, marked_at, marking, session_at, session_of, sessions_of}
 use Rattle.mq_tables.specs.Output.{output_of}
-use Rattle.mq_tables.proofs.SessionLemmas.{place}
+use Rattle.mq_tables.proofs.SessionLemmas.{ascending_acted, named_acted, some_same}
 
 module _ (key now : ℕ) where
   abbrev pub stamped : BrokerSession → BrokerSession
   stamped t = record t { left_at = now }
-
-  client_kept : (t : BrokerSession) → (marking key now t).client ≡ t.client
-  client_kept t = cond_both (eqb t.key key) (stamped t) t (λ (s : BrokerSession). s.client ≡ t.client) (λ e. refl) (λ e. refl)
 
   key_kept : (t : BrokerSession) → (marking key now t).key ≡ t.key
   key_kept t = cond_both (eqb t.key key) (stamped t) t (λ (s : BrokerSession). s.key ≡ t.key) (λ e. refl) (λ e. refl)
@@ -26,35 +21,10 @@ module _ (key now : ℕ) where
   -- ---- the table
 
   pub named_marked : (n : List ℕ) (ts : List BrokerSession) → key_of n (sessions_of (marked_at key now ts)) ≡ key_of n (sessions_of ts)
-  named_marked n [] = refl
-  named_marked n (t ∷ ts) = λ i. cond (bytes_eq (client_kept t i) n) (Some (key_kept t i)) (named_marked n ts i)
-
-  above_marked : (low : ℕ) (ts : List BrokerSession) → AllByRecursion (λ s. low < s.key) ts → AllByRecursion (λ s. low < s.key) (marked_at key now ts)
-  above_marked low [] all = tt
-  above_marked low (t ∷ ts) all = (subst (λ (n : ℕ). low < n) (sym (key_kept t)) all.0, above_marked low ts all.1)
+  named_marked n ts = named_acted stamped (λ t. refl) (λ t. refl) key n ts
 
   pub ascending_marked : (ts : List BrokerSession) → AreAscending ts → AreAscending (marked_at key now ts)
-  ascending_marked [] up = tt
-  ascending_marked (t ∷ ts) up = (
-    subst (λ (n : ℕ). AllByRecursion (λ s. n < s.key) (marked_at key now ts)) (sym (key_kept t)) (above_marked t.key ts up.0),
-    ascending_marked ts up.1,
-  )
-
-  distinct_marked : (ts : List BrokerSession) → AreDistinct ts → AreDistinct (marked_at key now ts)
-  distinct_marked [] distinct = tt
-  distinct_marked (t ∷ ts) distinct =
-      (ap (λ (n : List ℕ). key_of n (sessions_of (marked_at key now ts))) (client_kept t) ∙ named_marked t.client ts ∙ distinct.0, distinct_marked ts distinct.1)
-
-  pub table_marked : (ts : List BrokerSession) (find : List ℕ → Option ℕ) → AreSessions ts find → AreSessions (marked_at key now ts) find
-  table_marked ts find kept = record {
-    ascending = ascending_marked ts kept.ascending;
-    distinct = distinct_marked ts kept.distinct;
-    named = λ n. kept.named n ∙ sym (named_marked n ts);
-  }
-
-  pub length_marked : (ts : List BrokerSession) → length (marked_at key now ts) ≡ length ts
-  length_marked [] = refl
-  length_marked (t ∷ ts) = ap suc (length_marked ts)
+  ascending_marked ts up = ascending_acted stamped (λ t. refl) (λ t. refl) key ts up
 
   -- no session has the key
   pub absent_marked : (ts : List BrokerSession) → session_at key ts ≡ None → marked_at key now ts ≡ ts
@@ -65,40 +35,6 @@ module _ (key now : ℕ) where
       go true same rest = let some : Some t ≡ None = sym (cond-true (eqb t.key key) (Some t) (session_at key ts) same) ∙ none in absurd cc
       go false other rest =
           λ i. cond-false (eqb t.key key) (stamped t) t other i ∷ rest (sym (cond-false (eqb t.key key) (Some t) (session_at key ts) other) ∙ none) i
-
-  above_absent : (low : ℕ) (ts : List BrokerSession) → key ≤ low → AllByRecursion (λ s. low < s.key) ts → session_at key ts ≡ None
-  above_absent low [] le all = refl
-  above_absent low (t ∷ ts) le all =
-      cond-false (eqb t.key key) (Some t) (session_at key ts) (ne_eqb t.key key (λ same. omega (arith, same, le, all.0))) ∙ above_absent low ts le all.1
-
-  some_same : {x y : BrokerSession} → Some x ≡ Some y → x ≡ y
-  some_same e = cc
-
-  -- the session at the index of the key
-  pub stored_marked : (t : BrokerSession) (ts : List BrokerSession) → AreAscending ts → session_at key ts ≡ Some t → set ts (place key ts) (stamped t) ≡ marked_at key now ts
-  stored_marked t [] up there = absurd cc
-  stored_marked t (s ∷ ts) up there = go (ltb s.key key) refl (stored_marked t ts up.1)
-    where
-      first : (b : Bool) → eqb s.key key ≡ b → key ≤ s.key → (s ≡ t) × (eqb s.key key ≡ true)
-      first true same le = (some_same (sym (cond-true (eqb s.key key) (Some s) (session_at key ts) same) ∙ there), same)
-      first false apart le =
-          let none : Some t ≡ None = sym there ∙ cond-false (eqb s.key key) (Some s) (session_at key ts) apart ∙ above_absent s.key ts le up.0 in absurd cc
-
-      go : (b : Bool) → ltb s.key key ≡ b → (session_at key ts ≡ Some t → set ts (place key ts) (stamped t) ≡ marked_at key now ts)
-          → set (s ∷ ts) (place key (s ∷ ts)) (stamped t) ≡ marked_at key now (s ∷ ts)
-      go true below rest =
-          let l : s.key < key = ltb-true s.key key below in
-          let apart : eqb s.key key ≡ false = ne_eqb s.key key (λ w. omega arith) in
-          let later = rest (sym (cond-false (eqb s.key key) (Some s) (session_at key ts) apart) ∙ there) in
-          let index : 1 + place key ts ≡ suc (place key ts) = omega arith in
-          ap (λ (n : ℕ). set (s ∷ ts) n (stamped t)) (cond-true (ltb s.key key) (1 + place key ts) 0 below ∙ index)
-          ∙ ap (λ (rs : List BrokerSession). s ∷ rs) later
-          ∙ (λ i. sym (cond-false (eqb s.key key) (stamped s) s apart) i ∷ marked_at key now ts)
-      go false over rest =
-          let l : key ≤ s.key = ltb-false s.key key over in
-          let w = first (eqb s.key key) refl l in
-          ap (λ (n : ℕ). set (s ∷ ts) n (stamped t)) (cond-false (ltb s.key key) (1 + place key ts) 0 over)
-          ∙ (λ i. sym (cond-true (eqb s.key key) (stamped s) s w.1 ∙ ap stamped w.0) i ∷ sym (absent_marked ts (above_absent s.key ts l up.0)) i)
 
   -- ---- what the broker's definition sees
 

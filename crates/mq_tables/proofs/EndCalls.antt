@@ -1,10 +1,10 @@
 -- What the end of a session does, in terms of `Call`.
-use Rattle.std.proofs.Common.{◌≡◌, ℕ, ◌+◌, ◌≤◌, Bool, true, false, List, [], ◌∷◌, ◌++◌, length, Some, None, Result, Ok, Err, IsOk, IsErr, IfOk, OnOk, OnErr, refl, sym, ap, ap₂, cond, eqb, subst, ◌∙◌, arith, true≢false}
+use Rattle.std.proofs.Common.{◌≡◌, ℕ, ◌+◌, ◌≤◌, Bool, true, false, List, [], ◌∷◌, ◌++◌, length, get_or, Option, Some, None, Result, Ok, Err, IsOk, IsErr, IfOk, OnOk, OnErr, refl, sym, ap, ap₂, cond, eqb, subst, ◌∙◌, arith, true≢false}
 use Rattle.std.specs.Prelude.{⊤}
 use Rattle.std.specs.declared.alloc.AllocError.{AllocError}
 use Rattle.mq_packet.specs.declared.message.Message.{Message}
 use Rattle.mq_packet.specs.declared.packet.Packet.{Packet}
-use Rattle.mq_packet.specs.Encoding.{EncodingLaws, fields, encodings, EncodesAll as IsEncoded}
+use Rattle.mq_packet.specs.Encoding.{EncodingLaws, fields, encodings}
 use Rattle.mq_end.specs.declared.publish_outcome.PublishOutcome.{PublishOutcome}
 use Rattle.mq_end.specs.declared.packet_outcome.PacketOutcome.{PacketOutcome}
 use Rattle.mq_end.specs.declared.refusal.PublishRefusal.{PublishRefusal}
@@ -14,18 +14,16 @@ use Rattle.mq_end.specs.End.{End, Reply, sends_packets, is_live, is_up}
 use Rattle.mq_end.specs.Ready.{FitsRoom, HasRoom, is_exactly_once, packets_size, whole_size}
 use Rattle.mq_end.specs.Receiving.{Acts, TakesPacket, no_outcome, outcome_of, told_of}
 use Rattle.mq_end.specs.Server.{ready_refusal, server_gets, suback_refusal, unsuback_refusal}
-use Rattle.mq_end.specs.State.{EndState, PutsOut, EncodesAll}
+use Rattle.mq_end.specs.State.{EndState, PutsOut}
 use Rattle.mq_tables.specs.declared.sessions.call.Call.{Call}
 use Rattle.mq_tables.specs.declared.sessions.call.Call.TheVariants.{Takes, Grants, Drops}
 use Rattle.mq_tables.specs.declared.sessions.session.BrokerSession.{BrokerSession}
 use Rattle.mq_tables.specs.Calls.{CanServe, IsAllowed, Serves, ServesAt, Reports, reply_of, is_storing}
 use Rattle.mq_tables.specs.Publishing.{AreSameButRoom, IsReady, IsReadyAt, roomless}
 use Rattle.mq_tables.specs.Sessions.{AreAscending, session_at, with_server}
+use Rattle.mq_tables.proofs.EndPublishes.{encoded}
+use Rattle.mq_tables.proofs.FoundSession.{IsFound, set_back}
 use Rattle.mq_tables.proofs.SessionRoom.{changed_at, changed_own, same_change, same_session, some_same}
-
-encoded : (ps : List Packet) (b : List ℕ) → EncodesAll ps b → IsEncoded ps b
-encoded [] b h = h
-encoded (p ∷ ps) b h = (h.0, h.1, h.2, encoded ps h.1 h.3, h.4)
 
 put_out : EncodingLaws → (ps : List Packet) (old new : List ℕ) → PutsOut ps old new → new ≡ old ++ encodings ps
 put_out encoding ps old new out = out.2 ∙ ap (λ (b : List ℕ). old ++ b) (encoding.all ps out.0 (encoded ps out.0 out.1))
@@ -133,6 +131,18 @@ same_ends key (t ∷ ts) = ap₂ (λ (x : BrokerSession) (xs : List BrokerSessio
 pub unserved : (key : ℕ) (call : Call) (answer : Result PacketOutcome AllocError) (old new : List BrokerSession) → AreAscending old → ServesAt key call answer old new → OnErr answer (new ≡ old)
 unserved key call (Ok o) old new up r = tt
 unserved key call (Err e) old new up r = r.after ∙ ap (λ (s : EndState). with_server key s old) r.serves.err ∙ same_change (λ s. s) key r.session old up r.there ∙ same_ends key old
+
+-- the session that was found served a call
+pub found_serves : {key : ℕ} {ts seen lent : List BrokerSession} {find : List ℕ → Option ℕ} {len at : ℕ} → IsFound key ts seen lent find len at → (d : BrokerSession) (call : Call)
+    (answer : Result PacketOutcome AllocError) (x : BrokerSession) → x ≡ record (get_or lent at d) { end = x.end } → Serves call answer (get_or lent at d).end x.end
+    → ServesAt key call answer seen (set_back len ts lent at x)
+found_serves {lent = lent} {at = at} f d call answer x same serves = record {
+  session = get_or lent at d;
+  there = f.there d;
+  end = x.end;
+  serves = serves;
+  after = f.after d (λ t. record t { end = x.end }) x same;
+}
 
 -- ---- within the room
 

@@ -6,7 +6,8 @@ use Rattle.std.specs.Option.{is_some}
 use Rattle.mq_end.specs.State.{EndState}
 use Rattle.mq_tables.specs.declared.sessions.session.BrokerSession.{BrokerSession}
 use Rattle.mq_tables.specs.Sessions.{served_by, session_at, with_server, AreBelow}
-use Rattle.mq_tables.proofs.SessionLemmas.{with_above}
+use Rattle.mq_tables.proofs.SessionLemmas.{acted_above}
+use Rattle.mq_tables.proofs.SessionRoom.{all_there, key_there}
 
 pub some_is : (s t : BrokerSession) → Some s ≡ Some t → s ≡ t
 some_is s t e = cc
@@ -15,7 +16,7 @@ some_is s t e = cc
 pub first_key : (key : ℕ) (s : BrokerSession) (ts : List BrokerSession) (e : EndState) → eqb s.key key ≡ true → AllByRecursion (λ u. s.key < u.key) ts → with_server key e ts ≡ ts
 first_key key s ts e same above =
     let is = eqb-true s.key key same in
-    with_above key s.key e ts (omega arith) above
+    acted_above (λ t. record t { end = e }) key s.key ts (omega arith) above
 
 module _ (key : ℕ) (e : EndState) where
   served_key : (s : BrokerSession) → (served_by key e s).key ≡ s.key
@@ -41,18 +42,8 @@ module _ (key : ℕ) (e : EndState) where
 
 -- the session of a key is among those of which something holds
 pub holds_at : (P : BrokerSession → Type 0) (key : ℕ) (t : BrokerSession) (ts : List BrokerSession) → session_at key ts ≡ Some t → AllByRecursion P ts → P t
-holds_at P key t [] there all = absurd cc
-holds_at P key t (s ∷ ts) there all = go (eqb s.key key) refl (holds_at P key t ts)
-  where
-    go : (b : Bool) → eqb s.key key ≡ b → (session_at key ts ≡ Some t → AllByRecursion P ts → P t) → P t
-    go true at rest = subst P (some_is s t (sym (cond-true (eqb s.key key) (Some s) (session_at key ts) at) ∙ there)) all.0
-    go false at rest = rest (sym (cond-false (eqb s.key key) (Some s) (session_at key ts) at) ∙ there) all.1
+holds_at P key t ts there all = all_there P key t ts all there
 
 -- and it has the key
 pub key_is : (key : ℕ) (t : BrokerSession) (ts : List BrokerSession) → session_at key ts ≡ Some t → t.key ≡ key
-key_is key t [] there = absurd cc
-key_is key t (s ∷ ts) there = go (eqb s.key key) refl (key_is key t ts)
-  where
-    go : (b : Bool) → eqb s.key key ≡ b → (session_at key ts ≡ Some t → t.key ≡ key) → t.key ≡ key
-    go true at rest = ap (λ (u : BrokerSession). u.key) (sym (some_is s t (sym (cond-true (eqb s.key key) (Some s) (session_at key ts) at) ∙ there))) ∙ eqb-true s.key key at
-    go false at rest = rest (sym (cond-false (eqb s.key key) (Some s) (session_at key ts) at) ∙ there)
+key_is key t ts there = key_there key t ts there

@@ -22,15 +22,14 @@ use Rattle.mq_end.specs.declared.refusal.PublishRefusal.TheVariants as refusals
 use Rattle.mq_end.specs.declared.state.State.TheVariants.{Disconnected}
 use Rattle.mq_end.specs.Both.{publishes_at}
 use Rattle.mq_end.specs.End.{End, Reply, becomes_connected, is_up, renewed}
-use Rattle.mq_end.specs.Ready.{AreEncodable, HasConnectRoom, packets_size, size_at_once, whole_size}
+use Rattle.mq_end.specs.Ready.{AreEncodable, HasConnectRoom, HasRoom, packets_size, size_at_once, whole_size}
 use Rattle.mq_end.specs.Server.{connect_gets, opens, ready_refusal, refuses, server_gets}
 use Rattle.mq_end.specs.SizeLaws.{SizeLaws}
 use Rattle.mq_end.specs.Sizes.{publish_size}
-use Rattle.mq_end.specs.State.{EndState}
+use Rattle.mq_end.specs.State.{EndState, Room}
 use Rattle.mq_tables.specs.declared.sessions.session.BrokerSession.{BrokerSession}
 use Rattle.mq_tables.specs.Publishing.{placed_at, published, AreSameButRoom, AreStillReady, IsReadyAt, ReadiesAt}
 use Rattle.mq_tables.specs.Connecting.{roomed, HasConnectRoomAt}
-use Rattle.mq_tables.specs.Inside.Connecting.{IsEnlarged}
 use Rattle.mq_tables.specs.Sessions.{session_at, with_server, AreAscending}
 use Rattle.mq_tables.proofs.SessionRoom.{changed_other, changed_own, ready_same, ready_still, same_session, some_same}
 
@@ -41,6 +40,24 @@ pub rise_with : (c : Connect) (key : ℕ) (ms : List Message) (more : ℕ) (e : 
 rise_with c key ms more e t ts there h = record { session = record t { end = e }; there = changed_own (λ (x : EndState). e) key t ts there; connect_end = h }
 
 -- ---- an end that has more room
+
+-- the end of the session of a key has more room, and lost none
+pub record IsEnlarged (key : ℕ) (old new : List BrokerSession) : Type 0 where
+  pub session : BrokerSession
+  pub there : session_at key old ≡ Some session
+  pub room : Room
+  pub after : new ≡ with_server key (roomed room session.end) old
+  pub before : (ms : List Message) (n : ℕ) → HasRoom ms n session.end → HasRoom ms n (roomed room session.end)
+
+pub enlarged : (key : ℕ) (t : BrokerSession) (e : EndState) (old new : List BrokerSession) → session_at key old ≡ Some t → new ≡ with_server key e old → e ≡ roomed e.room t.end
+    → ((ms : List Message) (n : ℕ) → HasRoom ms n t.end → HasRoom ms n e) → IsEnlarged key old new
+enlarged key t e old new there after same before = record {
+  session = t;
+  there = there;
+  room = e.room;
+  after = after ∙ ap (λ (x : EndState). with_server key x old) same;
+  before = λ ms n h. subst (λ (x : EndState). HasRoom ms n x) same (before ms n h);
+}
 
 none_refused : (limit capacity : ℕ) (e : End) → ready_refusal limit capacity [] e ≡ None
 none_refused limit capacity e = ap (λ (b : Bool). cond b (Some refusals.Full) None) (le-ltb (capacity - length (uses e.book)) 0 (omega arith))

@@ -1,5 +1,5 @@
 -- The table of sessions: a key's index, its session, and the keys of client identifiers.
-use Rattle.std.proofs.Common.{◌≡◌, ℕ, zero, suc, ◌+◌, ◌<◌, ◌≤◌, Bool, true, false, cond, not, List, [], ◌∷◌, ◌++◌, length, get_or, take, drop, slice_get, Option, Some, None, refl, sym, ap, subst, ◌∙◌, arith, eqb, ltb, eqb-true, eq-eqb, ltb-true, ltb-false, lt-ltb, true≢false}
+use Rattle.std.proofs.Common.{◌≡◌, ℕ, zero, suc, ◌+◌, ◌<◌, ◌≤◌, Bool, true, false, cond, not, List, [], ◌∷◌, ◌++◌, length, get_or, take, drop, slice_get, map, Option, Some, None, refl, sym, ap, subst, ◌∙◌, arith, eqb, ltb, eqb-true, eq-eqb, ltb-true, ltb-false, lt-ltb, true≢false}
 use Rattle.std.proofs.lemmas.Bool.{cond-true, cond-false, le-ltb, ne_eqb}
 use Rattle.std.proofs.Math.ListN.{set}
 use Rattle.std.specs.List.{AllByRecursion, prefix_len, remove}
@@ -68,7 +68,7 @@ none_above key low (t ∷ ts) le all =
 some_none : {X : Type 0} {x : X} → Some x ≡ None → ⊥
 some_none e = absurd cc
 
-some_same : {X : Type 0} {x y : X} → Some x ≡ Some y → x ≡ y
+pub some_same : {X : Type 0} {x y : X} → Some x ≡ Some y → x ≡ y
 some_same e = cc
 
 le_same : (a b : ℕ) → eqb a b ≡ true → b ≤ a
@@ -297,46 +297,96 @@ distinct_without key (t ∷ ts) distinct = go (not (eqb t.key key)) (distinct_wi
     go true rest = (none_without t.client key ts distinct.0, rest)
     go false rest = rest
 
+-- ---- the session of a key acts
+
+abbrev pub acting : (BrokerSession → BrokerSession) → ℕ → BrokerSession → BrokerSession
+acting f key t = cond (eqb t.key key) (f t) t
+
+-- the sessions after that of a key acted
+abbrev pub acted_at : (BrokerSession → BrokerSession) → ℕ → List BrokerSession → List BrokerSession
+acted_at f key ts = map (acting f key) ts
+
+module _ (f : BrokerSession → BrokerSession) (key : ℕ) where
+  pub acted_above : (low : ℕ) (ts : List BrokerSession) → key ≤ low → AllByRecursion (λ s. low < s.key) ts → acted_at f key ts ≡ ts
+  acted_above low [] le all = refl
+  acted_above low (t ∷ ts) le all =
+      let l = all.0 in
+      λ i. cond-false (eqb t.key key) (f t) t (ne_eqb t.key key (λ w. omega arith)) i ∷ acted_above low ts le all.1 i
+
+  -- the session at the index of a key acts
+  pub set_acted : (t : BrokerSession) (ts : List BrokerSession) → AreAscending ts → session_at key ts ≡ Some t → set ts (place key ts) (f t) ≡ acted_at f key ts
+  set_acted t [] up there = absurd cc
+  set_acted t (s ∷ ts) up there = go (ltb s.key key) refl (set_acted t ts up.1)
+    where
+      first : (b : Bool) → eqb s.key key ≡ b → key ≤ s.key → (s ≡ t) × (eqb s.key key ≡ true)
+      first true same le = (some_same (sym (cond-true (eqb s.key key) (Some s) (session_at key ts) same) ∙ there), same)
+      first false apart le =
+          absurd (some_none (sym there ∙ cond-false (eqb s.key key) (Some s) (session_at key ts) apart ∙ none_above key s.key ts le up.0))
+
+      go : (b : Bool) → ltb s.key key ≡ b → (session_at key ts ≡ Some t → set ts (place key ts) (f t) ≡ acted_at f key ts)
+          → set (s ∷ ts) (place key (s ∷ ts)) (f t) ≡ acted_at f key (s ∷ ts)
+      go true below rest =
+          let l : s.key < key = ltb-true s.key key below in
+          let apart : eqb s.key key ≡ false = ne_eqb s.key key (λ w. omega arith) in
+          let later = rest (sym (cond-false (eqb s.key key) (Some s) (session_at key ts) apart) ∙ there) in
+          ap (λ (n : ℕ). set (s ∷ ts) n (f t)) (cond-true (ltb s.key key) (1 + place key ts) 0 below ∙ one_more (place key ts))
+          ∙ ap (λ (rs : List BrokerSession). s ∷ rs) later
+          ∙ (λ i. sym (cond-false (eqb s.key key) (f s) s apart) i ∷ acted_at f key ts)
+      go false over rest =
+          let l : key ≤ s.key = ltb-false s.key key over in
+          let w = first (eqb s.key key) refl l in
+          ap (λ (n : ℕ). set (s ∷ ts) n (f t)) (cond-false (ltb s.key key) (1 + place key ts) 0 over)
+          ∙ (λ i. sym (cond-true (eqb s.key key) (f s) s w.1 ∙ ap f w.0) i ∷ sym (acted_above s.key ts l up.0) i)
+
+-- it keeps its key and its client identifier
+module _ (f : BrokerSession → BrokerSession) (keyed : (t : BrokerSession) → (f t).key ≡ t.key) (named : (t : BrokerSession) → (f t).client ≡ t.client) (key : ℕ) where
+  pub named_acted : (n : List ℕ) (ts : List BrokerSession) → key_of n (sessions_of (acted_at f key ts)) ≡ key_of n (sessions_of ts)
+  named_acted n [] = refl
+  named_acted n (t ∷ ts) = go (eqb t.key key) (named_acted n ts)
+    where
+      go : (b : Bool) → key_of n (sessions_of (acted_at f key ts)) ≡ key_of n (sessions_of ts)
+          → key_of n (sessions_of (cond b (f t) t ∷ acted_at f key ts)) ≡ key_of n (sessions_of (t ∷ ts))
+      go true rest = λ i. cond (bytes_eq (named t i) n) (Some (keyed t i)) (rest i)
+      go false rest = ap (λ (o : Option ℕ). cond (bytes_eq t.client n) (Some t.key) o) rest
+
+  all_acted : (low : ℕ) (ts : List BrokerSession) → AllByRecursion (λ s. low < s.key) ts → AllByRecursion (λ s. low < s.key) (acted_at f key ts)
+  all_acted low [] all = tt
+  all_acted low (t ∷ ts) all = go (eqb t.key key) (all_acted low ts all.1)
+    where
+      go : (b : Bool) → AllByRecursion (λ s. low < s.key) (acted_at f key ts) → AllByRecursion (λ s. low < s.key) (cond b (f t) t ∷ acted_at f key ts)
+      go true rest = (subst (λ (n : ℕ). low < n) (sym (keyed t)) all.0, rest)
+      go false rest = (all.0, rest)
+
+  pub ascending_acted : (ts : List BrokerSession) → AreAscending ts → AreAscending (acted_at f key ts)
+  ascending_acted [] up = tt
+  ascending_acted (t ∷ ts) up = go (eqb t.key key) (all_acted t.key ts up.0) (ascending_acted ts up.1)
+    where
+      go : (b : Bool) → AllByRecursion (λ s. t.key < s.key) (acted_at f key ts) → AreAscending (acted_at f key ts) → AreAscending (cond b (f t) t ∷ acted_at f key ts)
+      go true all rest = (subst (λ (n : ℕ). AllByRecursion (λ s. n < s.key) (acted_at f key ts)) (sym (keyed t)) all, rest)
+      go false all rest = (all, rest)
+
+  distinct_acted : (ts : List BrokerSession) → AreDistinct ts → AreDistinct (acted_at f key ts)
+  distinct_acted [] distinct = tt
+  distinct_acted (t ∷ ts) distinct = go (eqb t.key key) (named_acted t.client ts ∙ distinct.0) (distinct_acted ts distinct.1)
+    where
+      go : (b : Bool) → key_of t.client (sessions_of (acted_at f key ts)) ≡ None → AreDistinct (acted_at f key ts) → AreDistinct (cond b (f t) t ∷ acted_at f key ts)
+      go true none rest = (ap (λ (n : List ℕ). key_of n (sessions_of (acted_at f key ts))) (named t) ∙ none, rest)
+      go false none rest = (none, rest)
+
+  pub kept_acted : (ts : List BrokerSession) (find : List ℕ → Option ℕ) → AreSessions ts find → AreSessions (acted_at f key ts) find
+  kept_acted ts find kept = record {
+    ascending = ascending_acted ts kept.ascending;
+    distinct = distinct_acted ts kept.distinct;
+    named = λ n. kept.named n ∙ sym (named_acted n ts);
+  }
+
 -- ---- another end
 
 pub named_with : (n : List ℕ) (key : ℕ) (e : EndState) (ts : List BrokerSession) → key_of n (sessions_of (with_server key e ts)) ≡ key_of n (sessions_of ts)
-named_with n key e [] = refl
-named_with n key e (t ∷ ts) = go (eqb t.key key) (named_with n key e ts)
-  where
-    go : (b : Bool) → key_of n (sessions_of (with_server key e ts)) ≡ key_of n (sessions_of ts)
-        → key_of n (sessions_of (cond b (record t { end = e }) t ∷ with_server key e ts)) ≡ key_of n (sessions_of (t ∷ ts))
-    go true rest = ap (λ (o : Option ℕ). cond (bytes_eq t.client n) (Some t.key) o) rest
-    go false rest = ap (λ (o : Option ℕ). cond (bytes_eq t.client n) (Some t.key) o) rest
-
-all_with : (low key : ℕ) (e : EndState) (ts : List BrokerSession) → AllByRecursion (λ s. low < s.key) ts → AllByRecursion (λ s. low < s.key) (with_server key e ts)
-all_with low key e [] all = tt
-all_with low key e (t ∷ ts) all = go (eqb t.key key) (all_with low key e ts all.1)
-  where
-    go : (b : Bool) → AllByRecursion (λ s. low < s.key) (with_server key e ts) → AllByRecursion (λ s. low < s.key) (cond b (record t { end = e }) t ∷ with_server key e ts)
-    go true rest = (all.0, rest)
-    go false rest = (all.0, rest)
+named_with n key e ts = named_acted (λ t. record t { end = e }) (λ t. refl) (λ t. refl) key n ts
 
 pub ascending_with : (key : ℕ) (e : EndState) (ts : List BrokerSession) → AreAscending ts → AreAscending (with_server key e ts)
-ascending_with key e [] up = tt
-ascending_with key e (t ∷ ts) up = go (eqb t.key key) (all_with t.key key e ts up.0) (ascending_with key e ts up.1)
-  where
-    go : (b : Bool) → AllByRecursion (λ s. t.key < s.key) (with_server key e ts) → AreAscending (with_server key e ts) → AreAscending (cond b (record t { end = e }) t ∷ with_server key e ts)
-    go true all rest = (all, rest)
-    go false all rest = (all, rest)
-
-pub distinct_with : (key : ℕ) (e : EndState) (ts : List BrokerSession) → AreDistinct ts → AreDistinct (with_server key e ts)
-distinct_with key e [] distinct = tt
-distinct_with key e (t ∷ ts) distinct = go (eqb t.key key) (named_with t.client key e ts ∙ distinct.0) (distinct_with key e ts distinct.1)
-  where
-    go : (b : Bool) → key_of t.client (sessions_of (with_server key e ts)) ≡ None → AreDistinct (with_server key e ts) → AreDistinct (cond b (record t { end = e }) t ∷ with_server key e ts)
-    go true none rest = (none, rest)
-    go false none rest = (none, rest)
-
-pub with_above : (key low : ℕ) (e : EndState) (ts : List BrokerSession) → key ≤ low → AllByRecursion (λ s. low < s.key) ts → with_server key e ts ≡ ts
-with_above key low e [] le all = refl
-with_above key low e (t ∷ ts) le all =
-    let l = all.0 in
-    λ i. cond-false (eqb t.key key) (record t { end = e }) t (ne_eqb t.key key (λ w. omega arith)) i ∷ with_above key low e ts le all.1 i
+ascending_with key e ts up = ascending_acted (λ t. record t { end = e }) (λ t. refl) (λ t. refl) key ts up
 
 -- ---- at the index of a key
 
@@ -374,31 +424,6 @@ got_some d [] i l = absurd (omega arith)
 got_some d (s ∷ ts) zero l = refl
 got_some d (s ∷ ts) (suc i) l = got_some d ts i (omega arith)
 
--- the end of the session at the index of a key is exchanged
-pub swapped : (key : ℕ) (e : EndState) (t : BrokerSession) (ts : List BrokerSession) → AreAscending ts → session_at key ts ≡ Some t → set ts (place key ts) (record t { end = e }) ≡ with_server key e ts
-swapped key e t [] up there = absurd cc
-swapped key e t (s ∷ ts) up there = go (ltb s.key key) refl (swapped key e t ts up.1)
-  where
-    first : (b : Bool) → eqb s.key key ≡ b → key ≤ s.key → (s ≡ t) × (eqb s.key key ≡ true)
-    first true same le = (some_same (sym (cond-true (eqb s.key key) (Some s) (session_at key ts) same) ∙ there), same)
-    first false apart le =
-        absurd (some_none (sym there ∙ cond-false (eqb s.key key) (Some s) (session_at key ts) apart ∙ none_above key s.key ts le up.0))
-
-    go : (b : Bool) → ltb s.key key ≡ b → (session_at key ts ≡ Some t → set ts (place key ts) (record t { end = e }) ≡ with_server key e ts)
-        → set (s ∷ ts) (place key (s ∷ ts)) (record t { end = e }) ≡ with_server key e (s ∷ ts)
-    go true below rest =
-        let l : s.key < key = ltb-true s.key key below in
-        let apart : eqb s.key key ≡ false = ne_eqb s.key key (λ w. omega arith) in
-        let later = rest (sym (cond-false (eqb s.key key) (Some s) (session_at key ts) apart) ∙ there) in
-        ap (λ (n : ℕ). set (s ∷ ts) n (record t { end = e })) (cond-true (ltb s.key key) (1 + place key ts) 0 below ∙ one_more (place key ts))
-        ∙ ap (λ (rs : List BrokerSession). s ∷ rs) later
-        ∙ (λ i. sym (cond-false (eqb s.key key) (record s { end = e }) s apart) i ∷ with_server key e ts)
-    go false over rest =
-        let l : key ≤ s.key = ltb-false s.key key over in
-        let w = first (eqb s.key key) refl l in
-        ap (λ (n : ℕ). set (s ∷ ts) n (record t { end = e })) (cond-false (ltb s.key key) (1 + place key ts) 0 over)
-        ∙ (λ i. sym (cond-true (eqb s.key key) (record s { end = e }) s w.1 ∙ ap (λ (x : BrokerSession). record x { end = e }) w.0) i ∷ sym (with_above key s.key e ts l up.0) i)
-
 -- ---- the invariant of the table
 
 pub kept_last : (t : BrokerSession) (ts : List BrokerSession) (find after : List ℕ → Option ℕ) → AreSessions ts find → AreBelow t.key ts → key_of t.client (sessions_of ts) ≡ None
@@ -407,13 +432,6 @@ kept_last t ts find after kept below none says = record {
   ascending = below_last t ts kept.ascending below;
   distinct = distinct_last t ts kept.distinct none;
   named = λ n. says n ∙ ap (λ (o : Option ℕ). cond (bytes_eq t.client n) (Some t.key) o) (kept.named n) ∙ sym (named_last n t ts none);
-}
-
-pub kept_with : (key : ℕ) (e : EndState) (ts : List BrokerSession) (find : List ℕ → Option ℕ) → AreSessions ts find → AreSessions (with_server key e ts) find
-kept_with key e ts find kept = record {
-  ascending = ascending_with key e ts kept.ascending;
-  distinct = distinct_with key e ts kept.distinct;
-  named = λ n. kept.named n ∙ sym (named_with n key e ts);
 }
 
 pub kept_without : (key : ℕ) (t : BrokerSession) (ts : List BrokerSession) (find after : List ℕ → Option ℕ) → AreSessions ts find → session_at key ts ≡ Some t
@@ -461,10 +479,6 @@ copied_none None none = refl
 copied_none (Some t) none = absurd (true≢false none)
 
 -- ---- a list that was written through
-
-pub same_length : (key : ℕ) (e : EndState) (ts : List BrokerSession) → length (with_server key e ts) ≡ length ts
-same_length key e [] = refl
-same_length key e (t ∷ ts) = ap suc (same_length key e ts)
 
 pub written : (new ts : List BrokerSession) → length new ≡ length ts → take (length ts) (new ++ drop (length new) ts) ≡ new
 written [] [] same = refl

@@ -21,9 +21,7 @@ use Rattle.mq_tables.specs.declared.sessions.session.BrokerSession.{BrokerSessio
 use Rattle.mq_tables.specs.Rules.{bytes_of, fits_left, left_of}
 use Rattle.mq_tables.specs.Sessions.{AreAscending, sessions_of, session_of, session_at, with_server}
 use Rattle.mq_tables.specs.Publishing.{AreSameButRoom, AreStillReady, IsReadyAt, MayGo, ReadiesAt, roomless}
-
-pub some_same : {X : Type 0} {x y : X} → Some x ≡ Some y → x ≡ y
-some_same e = cc
+pub use Rattle.mq_tables.proofs.SessionLemmas.{some_same}
 
 -- ---- how many identifiers copies need
 

@@ -30,7 +30,6 @@ pub use Rattle.mq_tables.specs.Alarms.{IsQuiet, is_late_on, IsAwaited}
 pub use Rattle.mq_tables.specs.Inside.Alarms.{RingsWith, is_named, AreAwaited, AreAwaitedBut}
 pub use Rattle.mq_tables.specs.Calls.{IsAllowed, Serves, publish_call, CanServe, ServesAt}
 pub use Rattle.mq_tables.specs.Connecting.{connected_end, roomed, HasConnected, IsRoomed, left, HasConnectRoomAt, parted, HasContinued}
-pub use Rattle.mq_tables.specs.Inside.Connecting.{IsEnlarged}
 pub use Rattle.mq_tables.specs.Connections.{connection_of, IsReading, connections_of, IsDecoding, touched_at, holds, left_with, connected_for}
 pub use Rattle.mq_tables.specs.Inside.Connections.{IsTimely, IsNamedAt}
 pub use Rattle.mq_tables.specs.Expiry.{gone_keys, is_gone}

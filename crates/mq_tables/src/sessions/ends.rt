@@ -1,25 +1,15 @@
 //! Calls to the ends of the sessions in the table.
 
 ghost use Rattle.std.specs.Prelude.{◌≡◌, ◌-◌, ◌<◌, ℕ, List, [], ◌∷◌, true, OnOk, OnErr, IsSome, IfSome};
-ghost use Rattle.mq_tables.specs.Prelude.{Connect, Message, fits_delivery, told_of, CanServe, ServesAt, publish_call, CollectsAt, left, connected_end, HasConnectRoomAt, IsEnlarged, placed_at, AreSameButRoom, AreStillReady, IsReadyAt, ReadiesAt, session_at, with_server, AreAscending};
+ghost use Rattle.mq_tables.specs.Prelude.{Connect, Message, fits_delivery, told_of, CanServe, ServesAt, publish_call, CollectsAt, left, connected_end, HasConnectRoomAt, placed_at, AreSameButRoom, AreStillReady, IsReadyAt, ReadiesAt, session_at, with_server, AreAscending};
 
 use crate::sessions::call::Call;
-use crate::sessions::session::BoxedSession;
 use crate::sessions::table::{Sessions, place};
 use bytes::Bytes;
 use mq_end::{PacketOutcome, PreparedMessage, PublishOutcome, PublishRefusal};
 use mq_packet::{BoxedConnect, Connect, Delivery, Message};
 use mq_topic::ClientKey;
 use std::alloc::AllocError;
-
-fn collect_at(list: &mut [BoxedSession], key: ClientKey) -> Result<Bytes, AllocError>
-    requires ascending { AreAscending list.old }
-    requires there { IsSome (session_at key list.old) }
-    ensures { CollectsAt key result list.old list.new }
-{
-    let at = place(list, key);
-    list[at].collect()
-}
 
 impl Sessions {
     /// Takes the pending output of a session's end without copying it.
@@ -28,39 +18,11 @@ impl Sessions {
         ensures collects { CollectsAt key result self.old.list self.new.list }
         ensures room { self.new.room ≡ self.old.room }
     {
-        collect_at(self.list.as_mut_slice(), key)
+        let list = self.list.as_mut_slice();
+        let at = place(list, key);
+        list[at].collect()
     }
-}
 
-fn ready_at(
-    list: &mut [BoxedSession],
-    key: ClientKey,
-    messages: &[Message],
-    more: usize,
-) -> Result<(), PublishRefusal>
-    requires ascending { AreAscending list.old }
-    requires there { IsSome (session_at key list.old) }
-    ensures { ReadiesAt key messages.now more result list.old list.new }
-{
-    let at = place(list, key);
-    list[at].ready(messages, more)
-}
-
-#[inline(always)]
-fn serve_at(
-    list: &mut [BoxedSession],
-    key: ClientKey,
-    call: Call,
-) -> Result<PacketOutcome, AllocError>
-    requires ascending { AreAscending list.old }
-    requires can { CanServe key call list.old }
-    ensures { ServesAt key call result list.old list.new }
-{
-    let at = place(list, key);
-    list[at].serve(call)
-}
-
-impl Sessions {
     /// Has the end of a session, which must be connected, carry out a call.
     #[inline(always)]
     pub fn serve(&mut self, key: ClientKey, call: Call) -> Result<PacketOutcome, AllocError>
@@ -69,28 +31,11 @@ impl Sessions {
         ensures err { OnErr result (self.new.list ≡ self.old.list) }
         ensures room { self.new.room ≡ self.old.room }
     {
-        serve_at(self.list.as_mut_slice(), key, call)
+        let list = self.list.as_mut_slice();
+        let at = place(list, key);
+        list[at].serve(call)
     }
-}
 
-#[inline(always)]
-fn serve_publish_at(
-    list: &mut [BoxedSession],
-    key: ClientKey,
-    now: u64,
-    message: &Message,
-    delivery: Option<Delivery>,
-) -> Result<PublishOutcome, AllocError>
-    requires ascending { AreAscending list.old }
-    requires can { CanServe key (publish_call now message.now delivery) list.old }
-    requires fits { fits_delivery message.now.qos delivery ≡ true }
-    ensures { ServesAt key (publish_call now message.now delivery) (told_of message.now result) list.old list.new }
-{
-    let at = place(list, key);
-    list[at].serve_publish(now, message, delivery)
-}
-
-impl Sessions {
     /// Has the end of a session, which must be connected, process the PUBLISH of a message (3.3).
     /// The caller keeps the message.
     #[inline(always)]
@@ -107,11 +52,11 @@ impl Sessions {
         ensures err { OnErr result (self.new.list ≡ self.old.list) }
         ensures room { self.new.room ≡ self.old.room }
     {
-        serve_publish_at(self.list.as_mut_slice(), key, now, message, delivery)
+        let list = self.list.as_mut_slice();
+        let at = place(list, key);
+        list[at].serve_publish(now, message, delivery)
     }
-}
 
-impl Sessions {
     /// Makes room in the end of a session for messages, and for `more` bytes besides their
     /// PUBLISHes.
     pub fn ready(
@@ -125,7 +70,9 @@ impl Sessions {
         ensures ascending { AreAscending self.old.list }
         ensures room { self.new.room ≡ self.old.room }
     {
-        ready_at(self.list.as_mut_slice(), key, messages, more)
+        let list = self.list.as_mut_slice();
+        let at = place(list, key);
+        list[at].ready(messages, more)
     }
 
     /// Has the end of a session publish a message for which it has room.
@@ -140,43 +87,7 @@ impl Sessions {
         let at = place(list, key);
         list[at].publish(message);
     }
-}
 
-fn reserve_connect_at(
-    list: &mut [BoxedSession],
-    key: ClientKey,
-    connect: &Connect,
-    messages: &[Message],
-) -> Result<(), AllocError>
-    requires ascending { AreAscending list.old }
-    requires there { IsSome (session_at key list.old) }
-    ensures ok { OnOk result (HasConnectRoomAt connect.now key messages.now 0 list.new) }
-    ensures enlarged { IsEnlarged key list.old list.new }
-{
-    let at = place(list, key);
-    list[at].reserve_connect(connect, messages)
-}
-
-fn lose_connection_at(list: &mut [BoxedSession], key: ClientKey)
-    requires ascending { AreAscending list.old }
-    requires there { IsSome (session_at key list.old) }
-    ensures list { IfSome (session_at key list.old) (λ t. list.new ≡ with_server key (left t.end) list.old) }
-    ensures connect_end { (c : Connect) (ms : List Message) (more : ℕ) → HasConnectRoomAt c key ms more list.old → HasConnectRoomAt c key ms more list.new }
-{
-    let at = place(list, key);
-    list[at].lose_connection();
-}
-
-fn connect_end_at(list: &mut [BoxedSession], key: ClientKey, connect: BoxedConnect, now: u64)
-    requires ascending { AreAscending list.old }
-    requires ready { HasConnectRoomAt connect key [] 0 list.old }
-    ensures { IfSome (session_at key list.old) (λ t. list.new ≡ with_server key (connected_end connect now t.end) list.old) }
-{
-    let at = place(list, key);
-    list[at].connect_end(connect, now);
-}
-
-impl Sessions {
     /// Makes room in the end of a session to resume with this CONNECT, and then to send messages
     /// (3.2, 4.4). On `Err` only the capacity of that end may have changed.
     pub fn reserve_connect(
@@ -191,7 +102,9 @@ impl Sessions {
         ensures still { AreStillReady self.old.list self.new.list }
         ensures room { self.new.room ≡ self.old.room }
     {
-        reserve_connect_at(self.list.as_mut_slice(), key, connect, messages)
+        let list = self.list.as_mut_slice();
+        let at = place(list, key);
+        list[at].reserve_connect(connect, messages)
     }
 
     /// The end of a session loses its connection (3.1.2.4) and keeps its room. Its pending output
@@ -202,7 +115,9 @@ impl Sessions {
         ensures connect_end { (c : Connect) (ms : List Message) (more : ℕ) → HasConnectRoomAt c key ms more self.old.list → HasConnectRoomAt c key ms more self.new.list }
         ensures room { self.new.room ≡ self.old.room }
     {
-        lose_connection_at(self.list.as_mut_slice(), key);
+        let list = self.list.as_mut_slice();
+        let at = place(list, key);
+        list[at].lose_connection();
     }
 
     /// Has the end of a session process a CONNECT for which it has room (3.1.4, 3.2).
@@ -212,6 +127,8 @@ impl Sessions {
             self.new.list ≡ with_server key (connected_end connect now t.end) self.old.list) }
         ensures room { self.new.room ≡ self.old.room }
     {
-        connect_end_at(self.list.as_mut_slice(), key, connect, now);
+        let list = self.list.as_mut_slice();
+        let at = place(list, key);
+        list[at].connect_end(connect, now);
     }
 }

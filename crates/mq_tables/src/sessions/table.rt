@@ -107,38 +107,6 @@ fn has_room_in(
     }
 }
 
-// Exchanges the end of a session for another.
-fn swap_at(list: &mut [BoxedSession], key: ClientKey, end: &mut ServerEnd)
-    requires ascending { AreAscending list.old }
-    requires there { IsSome (session_at key list.old) }
-    ensures list { list.new ≡ with_server key end.old list.old }
-    ensures end { IfSome (session_at key list.old) (λ t. end.new ≡ t.end) }
-{
-    let at = place(list, key);
-    list[at].swap_end(end);
-}
-
-// The end of a session loses its connection. Its pending output is exchanged for `output`.
-fn detach_at(list: &mut [BoxedSession], key: ClientKey, output: &mut ByteQueue)
-    requires ascending { AreAscending list.old }
-    requires there { IsSome (session_at key list.old) }
-    ensures list { IfSome (session_at key list.old) (λ t. list.new ≡ with_server key (parted t.end) list.old) }
-    ensures output { IfSome (session_at key list.old) (λ t. output.new ≡ t.end.output) }
-{
-    let at = place(list, key);
-    list[at].detach(output);
-}
-
-// The session of a key stores this time as that of its client's last disconnect.
-fn mark_left_at(list: &mut [BoxedSession], key: ClientKey, now: u64)
-    requires ascending { AreAscending list.old }
-    requires there { IsSome (session_at key list.old) }
-    ensures { list.new ≡ marked_at key now list.old }
-{
-    let at = place(list, key);
-    list[at].mark_left(now);
-}
-
 fn take_at(list: &mut Vec<BoxedSession>, key: ClientKey) -> Option<BrokerSession>
     requires { AreAscending list.old.items }
     ensures list { list.new.items ≡ without_key key list.old.items }
@@ -302,7 +270,9 @@ impl Sessions {
         ensures end { IfSome (session_at key self.old.list) (λ t. end.new ≡ t.end) }
         ensures room { self.new.room ≡ self.old.room }
     {
-        swap_at(self.list.as_mut_slice(), key, end);
+        let list = self.list.as_mut_slice();
+        let at = place(list, key);
+        list[at].swap_end(end);
     }
 
     /// The end of a session loses its connection (3.1.2.4). Its pending output is exchanged for
@@ -313,7 +283,9 @@ impl Sessions {
         ensures output { IfSome (session_at key self.old.list) (λ t. output.new ≡ t.end.output) }
         ensures room { self.new.room ≡ self.old.room }
     {
-        detach_at(self.list.as_mut_slice(), key, output);
+        let list = self.list.as_mut_slice();
+        let at = place(list, key);
+        list[at].detach(output);
     }
 
     /// Stores this time as that of a client's last disconnect, if it has a session of this key.
@@ -322,7 +294,9 @@ impl Sessions {
         ensures room { self.new.room ≡ self.old.room }
     {
         if self.get(key).is_some() {
-            mark_left_at(self.list.as_mut_slice(), key, now);
+            let list = self.list.as_mut_slice();
+            let at = place(list, key);
+            list[at].mark_left(now);
         }
     }
 

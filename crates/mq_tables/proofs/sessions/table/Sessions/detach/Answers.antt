@@ -1,25 +1,30 @@
-use Rattle.std.proofs.Common.{◌≡◌, ◌∙◌, ℕ, List, ◌++◌, take, drop, length, sym, ap, subst, arith}
-use Rattle.std.specs.HashMap.{get}
-use Rattle.std.specs.Option.{is_some}
-use Rattle.std.specs.Str.{bytes_eq}
-use Rattle.mq_tables.specs.declared.sessions.session.BrokerSession.{BrokerSession}
+use Rattle.std.proofs.Common.{◌≡◌, get_or, refl, sym, subst}
 use Rattle.mq_tables.specs.Connecting.{parted}
-use Rattle.mq_tables.specs.Sessions.{AreSessions, SessionTable, session_at}
-use Rattle.mq_tables.proofs.LostConnection.{IsPartedBy, parted_there}
-use Rattle.mq_tables.proofs.SessionLemmas.{kept_with, same_length, written}
+use Rattle.mq_tables.specs.Sessions.{AreAscending, with_server}
+use Rattle.mq_tables.proofs.FoundSession.{find_session, set_back, some_found}
 use Rattle.mq_tables.proofs.sessions.table.Sessions.detach.Goals as goal
+
+pub place-at-requires : goal.place-at-requires
+place-at-requires c = subst AreAscending (sym c.as_mut_slice-list.ensures.value) c.self.invariant.ascending
+
+pub bounds-list-at : goal.bounds-list-at
+bounds-list-at c =
+    (find_session c.args.key c.self.view_is c.as_mut_slice-list.ensures.value c.self.inside.list.ok.0 c.self.invariant c.requires c.place-at.ensures.value).within
 
 pub invariant_of-self : goal.invariant_of-self
 invariant_of-self c =
-    let ts = c.self.inside.list.items in
-    let new = c.detach_at.new.list in
-    let key = c.args.key in
-    let old = c.as_mut_slice.ensures.value in
-    let stands = ap (λ (v : SessionTable). is_some (session_at key v.list)) c.self.view_is ∙ c.requires in
-    let p = parted_there key ts new stands (subst (λ (rs : List BrokerSession). IsPartedBy key rs new) old c.detach_at.ensures.list) in
-    let e = parted p.session.end in
-    let long : length new ≡ length ts = ap length p.after ∙ same_length key e ts in
-    let whole : c.self.inside.list.len ≡ length ts = omega (arith, c.self.inside.list.ok.0) in
-    let same = ap (λ (n : ℕ). take n (new ++ drop (length new) ts)) whole ∙ written new ts long ∙ p.after in
-    subst (λ (rs : List BrokerSession). AreSessions rs (get bytes_eq c.self.inside.keys)) (sym same)
-    (kept_with key e ts (get bytes_eq c.self.inside.keys) c.self.invariant)
+    let f = find_session c.args.key c.self.view_is c.as_mut_slice-list.ensures.value c.self.inside.list.ok.0 c.self.invariant c.requires c.place-at.ensures.value in
+    f.kept c.index-list-at.result (λ t. record t { end = parted t.end }) (λ t. refl) (λ t. refl) c.detach.new.self c.detach.ensures.session
+
+pub returns-clause-list : goal.returns-clause-list
+returns-clause-list c =
+    let f = find_session c.args.key c.self.view_is c.as_mut_slice-list.ensures.value c.self.inside.list.ok.0 c.self.invariant c.requires c.place-at.ensures.value in
+    let d = c.index-list-at.result in
+    let t = get_or c.as_mut_slice-list.result.now c.place-at.result d in
+    some_found f d (λ s. set_back c.self.inside.list.len c.self.inside.list.items c.as_mut_slice-list.result.now c.place-at.result c.detach.new.self ≡ with_server c.args.key (parted s.end) c.args.self.now.list)
+    (f.after d (λ s. record s { end = parted t.end }) c.detach.new.self c.detach.ensures.session)
+
+pub returns-clause-output : goal.returns-clause-output
+returns-clause-output c =
+    let f = find_session c.args.key c.self.view_is c.as_mut_slice-list.ensures.value c.self.inside.list.ok.0 c.self.invariant c.requires c.place-at.ensures.value in
+    some_found f c.index-list-at.result (λ t. c.detach.new.output ≡ t.end.output) c.detach.ensures.output

@@ -1,40 +1,39 @@
-use Rattle.std.proofs.Common.{◌≡◌, ◌∙◌, ℕ, List, ◌++◌, take, drop, length, sym, ap, subst, arith}
-use Rattle.std.specs.HashMap.{get}
-use Rattle.std.specs.Option.{is_some}
-use Rattle.std.specs.Str.{bytes_eq}
+use Rattle.std.proofs.Common.{◌≡◌, ◌∙◌, List, get_or, refl, sym, subst}
+use Rattle.mq_end.specs.Ready.{HasConnectRoom}
 use Rattle.mq_tables.specs.declared.sessions.session.BrokerSession.{BrokerSession}
 use Rattle.mq_tables.specs.Connecting.{left, HasConnectRoomAt}
-use Rattle.mq_tables.specs.Sessions.{AreSessions, SessionTable, session_at}
-use Rattle.mq_tables.proofs.RoomToConnect.{changed_there, IsChangedBy}
-use Rattle.mq_tables.proofs.SessionLemmas.{kept_with, same_length, written}
+use Rattle.mq_tables.specs.Sessions.{AreAscending, with_server}
+use Rattle.mq_tables.proofs.FoundSession.{find_session, set_back, some_found}
+use Rattle.mq_tables.proofs.RoomToConnect.{rise_with}
+use Rattle.mq_tables.proofs.SessionLemmas.{some_same}
 use Rattle.mq_tables.proofs.sessions.table.Sessions.lose_connection.Goals as goal
+
+pub place-at-requires : goal.place-at-requires
+place-at-requires c = subst AreAscending (sym c.as_mut_slice-list.ensures.value) c.self.invariant.ascending
+
+pub bounds-list-at : goal.bounds-list-at
+bounds-list-at c =
+    (find_session c.args.key c.self.view_is c.as_mut_slice-list.ensures.value c.self.inside.list.ok.0 c.self.invariant c.requires c.place-at.ensures.value).within
 
 pub invariant_of-self : goal.invariant_of-self
 invariant_of-self c =
-    let ts = c.self.inside.list.items in
-    let new = c.lose_connection_at.new.list in
-    let key = c.args.key in
-    let old = c.as_mut_slice.ensures.value in
-    let stands = ap (λ (v : SessionTable). is_some (session_at key v.list)) c.self.view_is ∙ c.requires in
-    let p = changed_there left key ts new stands (subst (λ (rs : List BrokerSession). IsChangedBy left key rs new) old c.lose_connection_at.ensures.list) in
-    let e = left p.session.end in
-    let long : length new ≡ length ts = ap length p.after ∙ same_length key e ts in
-    let whole : c.self.inside.list.len ≡ length ts = omega (arith, c.self.inside.list.ok.0) in
-    let same = ap (λ (n : ℕ). take n (new ++ drop (length new) ts)) whole ∙ written new ts long ∙ p.after in
-    subst (λ (rs : List BrokerSession). AreSessions rs (get bytes_eq c.self.inside.keys)) (sym same)
-    (kept_with key e ts (get bytes_eq c.self.inside.keys) c.self.invariant)
+    let f = find_session c.args.key c.self.view_is c.as_mut_slice-list.ensures.value c.self.inside.list.ok.0 c.self.invariant c.requires c.place-at.ensures.value in
+    f.kept c.index-list-at.result (λ t. record t { end = left t.end }) (λ t. refl) (λ t. refl) c.lose_connection.new.self c.lose_connection.ensures.session
+
+pub returns-clause-list : goal.returns-clause-list
+returns-clause-list c =
+    let f = find_session c.args.key c.self.view_is c.as_mut_slice-list.ensures.value c.self.inside.list.ok.0 c.self.invariant c.requires c.place-at.ensures.value in
+    let d = c.index-list-at.result in
+    let t = get_or c.as_mut_slice-list.result.now c.place-at.result d in
+    some_found f d (λ s. set_back c.self.inside.list.len c.self.inside.list.items c.as_mut_slice-list.result.now c.place-at.result c.lose_connection.new.self ≡ with_server c.args.key (left s.end) c.args.self.now.list)
+    (f.after d (λ s. record s { end = left t.end }) c.lose_connection.new.self c.lose_connection.ensures.session)
 
 pub returns-clause-connect_end : goal.returns-clause-connect_end
 returns-clause-connect_end c = λ connect ms more h.
-    let ts = c.self.inside.list.items in
-    let new = c.lose_connection_at.new.list in
-    let key = c.args.key in
-    let value = c.as_mut_slice.ensures.value in
-    let stands = ap (λ (v : SessionTable). is_some (session_at key v.list)) c.self.view_is ∙ c.requires in
-    let p = changed_there left key ts new stands (subst (λ (rs : List BrokerSession). IsChangedBy left key rs new) value c.lose_connection_at.ensures.list) in
-    let long : length new ≡ length ts = ap length p.after ∙ same_length key (left p.session.end) ts in
-    let whole : c.self.inside.list.len ≡ length ts = omega (arith, c.self.inside.list.ok.0) in
-    let same = ap (λ (n : ℕ). take n (new ++ drop (length new) ts)) whole ∙ written new ts long in
-    let old = value ∙ ap (λ (v : SessionTable). v.list) c.self.view_is in
-    subst (λ (rs : List BrokerSession). HasConnectRoomAt connect key ms more rs) (sym same)
-    (c.lose_connection_at.ensures.connect_end connect ms more (subst (λ (rs : List BrokerSession). HasConnectRoomAt connect key ms more rs) (sym old) h))
+    let f = find_session c.args.key c.self.view_is c.as_mut_slice-list.ensures.value c.self.inside.list.ok.0 c.self.invariant c.requires c.place-at.ensures.value in
+    let d = c.index-list-at.result in
+    let t = get_or c.as_mut_slice-list.result.now c.place-at.result d in
+    let is = some_same (sym h.there ∙ f.there d) in
+    let rise = c.lose_connection.ensures.connect_end connect ms more (subst (λ (s : BrokerSession). HasConnectRoom connect ms more s.end) is h.connect_end) in
+    subst (λ (ts : List BrokerSession). HasConnectRoomAt connect c.args.key ms more ts) (sym (f.after d (λ s. record s { end = left t.end }) c.lose_connection.new.self c.lose_connection.ensures.session))
+    (rise_with connect c.args.key ms more (left t.end) t c.args.self.now.list (f.there d) (subst (λ (s : BrokerSession). HasConnectRoom connect ms more s.end) c.lose_connection.ensures.session rise))

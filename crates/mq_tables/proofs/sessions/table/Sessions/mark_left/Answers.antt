@@ -1,22 +1,30 @@
-use Rattle.std.proofs.Common.{◌≡◌, ◌∙◌, ℕ, List, ◌++◌, take, drop, length, sym, ap, subst, arith}
-use Rattle.std.specs.HashMap.{get}
-use Rattle.std.specs.Str.{bytes_eq}
-use Rattle.mq_tables.specs.declared.sessions.session.BrokerSession.{BrokerSession}
-use Rattle.mq_tables.specs.Sessions.{AreSessions, marked_at}
-use Rattle.mq_tables.proofs.DisconnectTimes.{absent_marked, length_marked, table_marked}
-use Rattle.mq_tables.proofs.SessionLemmas.{copied_none, written}
+use Rattle.std.proofs.Common.{◌∙◌, refl, sym, ap, subst}
+use Rattle.std.specs.Option.{is_some}
+use Rattle.mq_tables.specs.Sessions.{AreAscending}
+use Rattle.mq_tables.proofs.DisconnectTimes.{absent_marked, stamped}
+use Rattle.mq_tables.proofs.FoundSession.{find_session}
+use Rattle.mq_tables.proofs.SessionLemmas.{copied_none, copied_there}
 use Rattle.mq_tables.proofs.sessions.table.Sessions.mark_left.Goals as goal
+
+pub place-at-requires : goal.place-at-requires
+place-at-requires c = subst AreAscending (sym c.as_mut_slice-list.ensures.value) c.self.invariant.ascending
+
+pub bounds-list-at : goal.bounds-list-at
+bounds-list-at c =
+    let there = ap is_some (sym c.get.ensures) ∙ copied_there c.get.result (sym c.is_some.ensures ∙ c.if-is_some.true) in
+    (find_session c.args.key c.self.view_is c.as_mut_slice-list.ensures.value c.self.inside.list.ok.0 c.self.invariant there c.place-at.ensures.value).within
 
 pub invariant_of-self : goal.invariant_of-self
 invariant_of-self c =
-    let ts = c.self.inside.list.items in
-    let new = c.mark_left_at.new.list in
-    let changed : new ≡ marked_at c.args.key c.args.now ts = c.mark_left_at.ensures ∙ ap (marked_at c.args.key c.args.now) c.as_mut_slice.ensures.value in
-    let long : length new ≡ length ts = ap length changed ∙ length_marked c.args.key c.args.now ts in
-    let whole : c.self.inside.list.len ≡ length ts = omega (arith, c.self.inside.list.ok.0) in
-    let same = ap (λ (n : ℕ). take n (new ++ drop (length new) ts)) whole ∙ written new ts long ∙ changed in
-    subst (λ (rs : List BrokerSession). AreSessions rs (get bytes_eq c.self.inside.keys)) (sym same)
-    (table_marked c.args.key c.args.now ts (get bytes_eq c.self.inside.keys) c.self.invariant)
+    let there = ap is_some (sym c.get.ensures) ∙ copied_there c.get.result (sym c.is_some.ensures ∙ c.if-is_some.true) in
+    let f = find_session c.args.key c.self.view_is c.as_mut_slice-list.ensures.value c.self.inside.list.ok.0 c.self.invariant there c.place-at.ensures.value in
+    f.kept c.index-list-at.result (stamped c.args.key c.args.now) (λ t. refl) (λ t. refl) c.mark_left.new.self c.mark_left.ensures
+
+pub returns-then-is_some-clause-list : goal.returns-then-is_some-clause-list
+returns-then-is_some-clause-list c =
+    let there = ap is_some (sym c.get.ensures) ∙ copied_there c.get.result (sym c.is_some.ensures ∙ c.if-is_some.true) in
+    let f = find_session c.args.key c.self.view_is c.as_mut_slice-list.ensures.value c.self.inside.list.ok.0 c.self.invariant there c.place-at.ensures.value in
+    f.after c.index-list-at.result (stamped c.args.key c.args.now) c.mark_left.new.self c.mark_left.ensures
 
 pub returns-else-is_some-clause-list : goal.returns-else-is_some-clause-list
 returns-else-is_some-clause-list c =

@@ -1,35 +1,30 @@
-use Rattle.std.proofs.Common.{◌≡◌, ◌∙◌, ℕ, List, ◌++◌, take, drop, length, sym, ap, subst, arith}
-use Rattle.std.specs.HashMap.{get}
-use Rattle.std.specs.Str.{bytes_eq}
+use Rattle.std.proofs.Common.{get_or, refl, sym, subst}
 use Rattle.mq_tables.specs.declared.sessions.session.BrokerSession.{BrokerSession}
-use Rattle.mq_tables.specs.Publishing.{ReadiesAt}
-use Rattle.mq_tables.specs.Sessions.{AreSessions, SessionTable, with_server}
-use Rattle.mq_tables.proofs.SessionLemmas.{kept_with, same_length, written}
+use Rattle.mq_tables.specs.Sessions.{AreAscending}
+use Rattle.mq_tables.proofs.FoundSession.{find_session}
 use Rattle.mq_tables.proofs.sessions.table.Sessions.ready.Goals as goal
+
+pub place-at-requires : goal.place-at-requires
+place-at-requires c = subst AreAscending (sym c.as_mut_slice-list.ensures.value) c.self.invariant.ascending
+
+pub bounds-list-at : goal.bounds-list-at
+bounds-list-at c =
+    (find_session c.args.key c.self.view_is c.as_mut_slice-list.ensures.value c.self.inside.list.ok.0 c.self.invariant c.requires c.place-at.ensures.value).within
 
 pub invariant_of-self : goal.invariant_of-self
 invariant_of-self c =
-    let ts = c.self.inside.list.items in
-    let new = c.ready_at.new.list in
-    let key = c.args.key in
-    let e = c.ready_at.ensures.end in
-    let changed : new ≡ with_server key e ts = c.ready_at.ensures.after ∙ ap (with_server key e) c.as_mut_slice.ensures.value in
-    let long : length new ≡ length ts = ap length changed ∙ same_length key e ts in
-    let whole : c.self.inside.list.len ≡ length ts = omega (arith, c.self.inside.list.ok.0) in
-    let same = ap (λ (n : ℕ). take n (new ++ drop (length new) ts)) whole ∙ written new ts long ∙ changed in
-    subst (λ (rs : List BrokerSession). AreSessions rs (get bytes_eq c.self.inside.keys)) (sym same)
-    (kept_with key e ts (get bytes_eq c.self.inside.keys) c.self.invariant)
+    let f = find_session c.args.key c.self.view_is c.as_mut_slice-list.ensures.value c.self.inside.list.ok.0 c.self.invariant c.requires c.place-at.ensures.value in
+    f.kept c.index-list-at.result (λ t. record t { end = c.ready.new.self.end }) (λ t. refl) (λ t. refl) c.ready.new.self c.ready.ensures.session
 
 pub returns-clause-readies : goal.returns-clause-readies
 returns-clause-readies c =
-    let ts = c.self.inside.list.items in
-    let new = c.ready_at.new.list in
-    let key = c.args.key in
-    let e = c.ready_at.ensures.end in
-    let changed : new ≡ with_server key e ts = c.ready_at.ensures.after ∙ ap (with_server key e) c.as_mut_slice.ensures.value in
-    let long : length new ≡ length ts = ap length changed ∙ same_length key e ts in
-    let whole : c.self.inside.list.len ≡ length ts = omega (arith, c.self.inside.list.ok.0) in
-    let same = ap (λ (n : ℕ). take n (new ++ drop (length new) ts)) whole ∙ written new ts long in
-    let old = c.as_mut_slice.ensures.value ∙ ap (λ (v : SessionTable). v.list) c.self.view_is in
-    subst (λ (rs : List BrokerSession). ReadiesAt key c.args.messages.now c.args.more c.ready_at.result c.args.self.now.list rs) (sym same)
-    (subst (λ (rs : List BrokerSession). ReadiesAt key c.args.messages.now c.args.more c.ready_at.result rs new) old c.ready_at.ensures)
+    let f = find_session c.args.key c.self.view_is c.as_mut_slice-list.ensures.value c.self.inside.list.ok.0 c.self.invariant c.requires c.place-at.ensures.value in
+    let d = c.index-list-at.result in
+    let t = get_or c.as_mut_slice-list.result.now c.place-at.result d in
+    record {
+      session = t;
+      there = f.there d;
+      end = c.ready.new.self.end;
+      readies = c.ready.ensures.end;
+      after = f.after d (λ (s : BrokerSession). record s { end = c.ready.new.self.end }) c.ready.new.self c.ready.ensures.session;
+    }

@@ -1,74 +1,47 @@
-use Rattle.std.proofs.Common.{◌≡◌, ◌∙◌, ℕ, List, ◌++◌, take, drop, length, sym, ap, subst, arith}
-use Rattle.std.specs.HashMap.{get}
-use Rattle.std.specs.Str.{bytes_eq}
+use Rattle.std.proofs.Common.{List, get_or, refl, sym, subst}
 use Rattle.mq_tables.specs.declared.sessions.session.BrokerSession.{BrokerSession}
-use Rattle.mq_tables.specs.Publishing.{AreSameButRoom, AreStillReady}
-use Rattle.mq_tables.specs.Connecting.{roomed, HasConnectRoomAt}
-use Rattle.mq_tables.specs.Inside.Connecting.{IsEnlarged}
-use Rattle.mq_tables.specs.Sessions.{AreSessions, SessionTable, with_server}
+use Rattle.mq_tables.specs.Connecting.{HasConnectRoomAt}
+use Rattle.mq_tables.specs.Sessions.{AreAscending}
 use Rattle.mq_tables.proofs.FirstPackets.{ok_by}
-use Rattle.mq_tables.proofs.RoomToConnect.{enlarged_same, enlarged_still}
-use Rattle.mq_tables.proofs.SessionLemmas.{kept_with, same_length, written}
+use Rattle.mq_tables.proofs.FoundSession.{find_session}
+use Rattle.mq_tables.proofs.RoomToConnect.{enlarged, enlarged_same, enlarged_still, rise_with}
 use Rattle.mq_tables.proofs.sessions.table.Sessions.reserve_connect.Goals as goal
+
+pub place-at-requires : goal.place-at-requires
+place-at-requires c = subst AreAscending (sym c.as_mut_slice-list.ensures.value) c.self.invariant.ascending
+
+pub bounds-list-at : goal.bounds-list-at
+bounds-list-at c =
+    (find_session c.args.key c.self.view_is c.as_mut_slice-list.ensures.value c.self.inside.list.ok.0 c.self.invariant c.requires c.place-at.ensures.value).within
 
 pub invariant_of-self : goal.invariant_of-self
 invariant_of-self c =
-    let ts = c.self.inside.list.items in
-    let new = c.reserve_connect_at.new.list in
-    let key = c.args.key in
-    let is = c.reserve_connect_at.ensures.enlarged in
-    let e = roomed is.room is.session.end in
-    let changed : new ≡ with_server key e ts = is.after ∙ ap (with_server key e) c.as_mut_slice.ensures.value in
-    let long : length new ≡ length ts = ap length changed ∙ same_length key e ts in
-    let whole : c.self.inside.list.len ≡ length ts = omega (arith, c.self.inside.list.ok.0) in
-    let same = ap (λ (n : ℕ). take n (new ++ drop (length new) ts)) whole ∙ written new ts long ∙ changed in
-    subst (λ (rs : List BrokerSession). AreSessions rs (get bytes_eq c.self.inside.keys)) (sym same)
-    (kept_with key e ts (get bytes_eq c.self.inside.keys) c.self.invariant)
+    let f = find_session c.args.key c.self.view_is c.as_mut_slice-list.ensures.value c.self.inside.list.ok.0 c.self.invariant c.requires c.place-at.ensures.value in
+    f.kept c.index-list-at.result (λ t. record t { end = c.reserve_connect.new.self.end }) (λ t. refl) (λ t. refl) c.reserve_connect.new.self c.reserve_connect.ensures.session
 
 pub returns-clause-ok : goal.returns-clause-ok
 returns-clause-ok c =
-    let ts = c.self.inside.list.items in
-    let new = c.reserve_connect_at.new.list in
-    let key = c.args.key in
-    let is = c.reserve_connect_at.ensures.enlarged in
-    let e = roomed is.room is.session.end in
-    let changed : new ≡ with_server key e ts = is.after ∙ ap (with_server key e) c.as_mut_slice.ensures.value in
-    let long : length new ≡ length ts = ap length changed ∙ same_length key e ts in
-    let whole : c.self.inside.list.len ≡ length ts = omega (arith, c.self.inside.list.ok.0) in
-    let same = ap (λ (n : ℕ). take n (new ++ drop (length new) ts)) whole ∙ written new ts long in
-    ok_by c.reserve_connect_at.result
-    (λ h. subst (λ (rs : List BrokerSession). HasConnectRoomAt c.args.connect.now key c.args.messages.now 0 rs) (sym same) h) c.reserve_connect_at.ensures.ok
+    let f = find_session c.args.key c.self.view_is c.as_mut_slice-list.ensures.value c.self.inside.list.ok.0 c.self.invariant c.requires c.place-at.ensures.value in
+    let d = c.index-list-at.result in
+    let t = get_or c.as_mut_slice-list.result.now c.place-at.result d in
+    let e = c.reserve_connect.new.self.end in
+    ok_by c.reserve_connect.result
+    (λ h. subst (λ (ts : List BrokerSession). HasConnectRoomAt c.args.connect.now c.args.key c.args.messages.now 0 ts) (sym (f.after d (λ (s : BrokerSession). record s { end = c.reserve_connect.new.self.end }) c.reserve_connect.new.self c.reserve_connect.ensures.session))
+    (rise_with c.args.connect.now c.args.key c.args.messages.now 0 e t c.args.self.now.list (f.there d) h))
+    c.reserve_connect.ensures.ok
 
 pub returns-clause-same : goal.returns-clause-same
 returns-clause-same c =
-    let ts = c.self.inside.list.items in
-    let new = c.reserve_connect_at.new.list in
-    let key = c.args.key in
-    let is = c.reserve_connect_at.ensures.enlarged in
-    let e = roomed is.room is.session.end in
-    let value = c.as_mut_slice.ensures.value in
-    let changed : new ≡ with_server key e ts = is.after ∙ ap (with_server key e) value in
-    let long : length new ≡ length ts = ap length changed ∙ same_length key e ts in
-    let whole : c.self.inside.list.len ≡ length ts = omega (arith, c.self.inside.list.ok.0) in
-    let same = ap (λ (n : ℕ). take n (new ++ drop (length new) ts)) whole ∙ written new ts long in
-    let view = ap (λ (v : SessionTable). v.list) c.self.view_is in
-    let here : IsEnlarged key ts new = subst (λ (rs : List BrokerSession). IsEnlarged key rs new) value is in
-    subst (λ (rs : List BrokerSession). AreSameButRoom c.args.self.now.list rs) (sym same)
-    (subst (λ (rs : List BrokerSession). AreSameButRoom rs new) view (enlarged_same key ts new c.self.invariant.ascending here))
+    let f = find_session c.args.key c.self.view_is c.as_mut_slice-list.ensures.value c.self.inside.list.ok.0 c.self.invariant c.requires c.place-at.ensures.value in
+    let d = c.index-list-at.result in
+    let t = get_or c.as_mut_slice-list.result.now c.place-at.result d in
+    enlarged_same c.args.key c.args.self.now.list _ f.ascending
+    (enlarged c.args.key t c.reserve_connect.new.self.end c.args.self.now.list _ (f.there d) (f.after d (λ (s : BrokerSession). record s { end = c.reserve_connect.new.self.end }) c.reserve_connect.new.self c.reserve_connect.ensures.session) c.reserve_connect.ensures.end c.reserve_connect.ensures.before)
 
 pub returns-clause-still : goal.returns-clause-still
 returns-clause-still c =
-    let ts = c.self.inside.list.items in
-    let new = c.reserve_connect_at.new.list in
-    let key = c.args.key in
-    let is = c.reserve_connect_at.ensures.enlarged in
-    let e = roomed is.room is.session.end in
-    let value = c.as_mut_slice.ensures.value in
-    let changed : new ≡ with_server key e ts = is.after ∙ ap (with_server key e) value in
-    let long : length new ≡ length ts = ap length changed ∙ same_length key e ts in
-    let whole : c.self.inside.list.len ≡ length ts = omega (arith, c.self.inside.list.ok.0) in
-    let same = ap (λ (n : ℕ). take n (new ++ drop (length new) ts)) whole ∙ written new ts long in
-    let view = ap (λ (v : SessionTable). v.list) c.self.view_is in
-    let here : IsEnlarged key ts new = subst (λ (rs : List BrokerSession). IsEnlarged key rs new) value is in
-    subst (λ (rs : List BrokerSession). AreStillReady c.args.self.now.list rs) (sym same)
-    (subst (λ (rs : List BrokerSession). AreStillReady rs new) view (enlarged_still key ts new c.self.invariant.ascending here))
+    let f = find_session c.args.key c.self.view_is c.as_mut_slice-list.ensures.value c.self.inside.list.ok.0 c.self.invariant c.requires c.place-at.ensures.value in
+    let d = c.index-list-at.result in
+    let t = get_or c.as_mut_slice-list.result.now c.place-at.result d in
+    enlarged_still c.args.key c.args.self.now.list _ f.ascending
+    (enlarged c.args.key t c.reserve_connect.new.self.end c.args.self.now.list _ (f.there d) (f.after d (λ (s : BrokerSession). record s { end = c.reserve_connect.new.self.end }) c.reserve_connect.new.self c.reserve_connect.ensures.session) c.reserve_connect.ensures.end c.reserve_connect.ensures.before)

@@ -1,51 +1,41 @@
-use Rattle.std.proofs.Common.{◌≡◌, ◌∙◌, ℕ, List, ◌++◌, take, drop, length, OnErr, sym, ap, subst, arith}
-use Rattle.std.specs.HashMap.{get}
-use Rattle.std.specs.Str.{bytes_eq}
+use Rattle.std.proofs.Common.{◌∙◌, is_some, refl, sym, ap, subst}
+use Rattle.mq_end.specs.End.{is_up}
 use Rattle.mq_tables.specs.declared.sessions.session.BrokerSession.{BrokerSession}
-use Rattle.mq_tables.specs.Calls.{ServesAt}
-use Rattle.mq_tables.specs.Sessions.{AreAscending, AreSessions, SessionTable, with_server}
-use Rattle.mq_tables.proofs.EndCalls.{unserved}
-use Rattle.mq_tables.proofs.SessionLemmas.{kept_with, same_length, written}
+use Rattle.mq_tables.specs.Calls.{IsAllowed}
+use Rattle.mq_tables.specs.Sessions.{AreAscending}
+use Rattle.mq_tables.proofs.EndCalls.{found_serves, unserved}
+use Rattle.mq_tables.proofs.FoundSession.{find_session}
+use Rattle.mq_tables.proofs.SessionLemmas.{some_same}
 use Rattle.mq_tables.proofs.sessions.table.Sessions.serve.Goals as goal
+
+pub place-at-requires : goal.place-at-requires
+place-at-requires c = subst AreAscending (sym c.as_mut_slice-list.ensures.value) c.self.invariant.ascending
+
+pub bounds-list-at : goal.bounds-list-at
+bounds-list-at c =
+    (find_session c.args.key c.self.view_is c.as_mut_slice-list.ensures.value c.self.inside.list.ok.0 c.self.invariant (ap is_some c.requires.there) c.place-at.ensures.value).within
+
+pub serve-requires : goal.serve-requires
+serve-requires c =
+    let f = find_session c.args.key c.self.view_is c.as_mut_slice-list.ensures.value c.self.inside.list.ok.0 c.self.invariant (ap is_some c.requires.there) c.place-at.ensures.value in
+    let is = some_same (sym c.requires.there ∙ f.there c.index-list-at.result) in
+    record {
+      up = ap (λ (x : BrokerSession). is_up x.end.end.state) (sym is) ∙ c.requires.up;
+      allowed = subst (λ (x : BrokerSession). IsAllowed c.args.call x.end) is c.requires.allowed;
+    }
 
 pub invariant_of-self : goal.invariant_of-self
 invariant_of-self c =
-    let ts = c.self.inside.list.items in
-    let new = c.serve_at.new.list in
-    let key = c.args.key in
-    let e = c.serve_at.ensures.end in
-    let changed : new ≡ with_server key e ts = c.serve_at.ensures.after ∙ ap (with_server key e) c.as_mut_slice.ensures.value in
-    let long : length new ≡ length ts = ap length changed ∙ same_length key e ts in
-    let whole : c.self.inside.list.len ≡ length ts = omega (arith, c.self.inside.list.ok.0) in
-    let same = ap (λ (n : ℕ). take n (new ++ drop (length new) ts)) whole ∙ written new ts long ∙ changed in
-    subst (λ (rs : List BrokerSession). AreSessions rs (get bytes_eq c.self.inside.keys)) (sym same)
-    (kept_with key e ts (get bytes_eq c.self.inside.keys) c.self.invariant)
+    let f = find_session c.args.key c.self.view_is c.as_mut_slice-list.ensures.value c.self.inside.list.ok.0 c.self.invariant (ap is_some c.requires.there) c.place-at.ensures.value in
+    f.kept c.index-list-at.result (λ t. record t { end = c.serve.new.self.end }) (λ t. refl) (λ t. refl) c.serve.new.self c.serve.ensures.session
 
 pub returns-clause-serves : goal.returns-clause-serves
 returns-clause-serves c =
-    let ts = c.self.inside.list.items in
-    let new = c.serve_at.new.list in
-    let key = c.args.key in
-    let e = c.serve_at.ensures.end in
-    let changed : new ≡ with_server key e ts = c.serve_at.ensures.after ∙ ap (with_server key e) c.as_mut_slice.ensures.value in
-    let long : length new ≡ length ts = ap length changed ∙ same_length key e ts in
-    let whole : c.self.inside.list.len ≡ length ts = omega (arith, c.self.inside.list.ok.0) in
-    let same = ap (λ (n : ℕ). take n (new ++ drop (length new) ts)) whole ∙ written new ts long in
-    let old = c.as_mut_slice.ensures.value ∙ ap (λ (v : SessionTable). v.list) c.self.view_is in
-    subst (λ (rs : List BrokerSession). ServesAt key c.args.call c.serve_at.result c.args.self.now.list rs) (sym same)
-    (subst (λ (rs : List BrokerSession). ServesAt key c.args.call c.serve_at.result rs new) old c.serve_at.ensures)
+    let f = find_session c.args.key c.self.view_is c.as_mut_slice-list.ensures.value c.self.inside.list.ok.0 c.self.invariant (ap is_some c.requires.there) c.place-at.ensures.value in
+    found_serves f c.index-list-at.result c.args.call c.serve.result c.serve.new.self c.serve.ensures.session c.serve.ensures.end
 
 pub returns-clause-err : goal.returns-clause-err
 returns-clause-err c =
-    let ts = c.self.inside.list.items in
-    let new = c.serve_at.new.list in
-    let key = c.args.key in
-    let e = c.serve_at.ensures.end in
-    let changed : new ≡ with_server key e ts = c.serve_at.ensures.after ∙ ap (with_server key e) c.as_mut_slice.ensures.value in
-    let long : length new ≡ length ts = ap length changed ∙ same_length key e ts in
-    let whole : c.self.inside.list.len ≡ length ts = omega (arith, c.self.inside.list.ok.0) in
-    let same = ap (λ (n : ℕ). take n (new ++ drop (length new) ts)) whole ∙ written new ts long in
-    let old = c.as_mut_slice.ensures.value ∙ ap (λ (v : SessionTable). v.list) c.self.view_is in
-    let up = subst AreAscending (ap (λ (v : SessionTable). v.list) c.self.view_is) c.self.invariant.ascending in
-    subst (λ (rs : List BrokerSession). OnErr c.serve_at.result (rs ≡ c.args.self.now.list)) (sym same)
-    (unserved key c.args.call c.serve_at.result c.args.self.now.list new up (subst (λ (rs : List BrokerSession). ServesAt key c.args.call c.serve_at.result rs new) old c.serve_at.ensures))
+    let f = find_session c.args.key c.self.view_is c.as_mut_slice-list.ensures.value c.self.inside.list.ok.0 c.self.invariant (ap is_some c.requires.there) c.place-at.ensures.value in
+    unserved c.args.key c.args.call c.serve.result c.args.self.now.list _ f.ascending
+    (found_serves f c.index-list-at.result c.args.call c.serve.result c.serve.new.self c.serve.ensures.session c.serve.ensures.end)

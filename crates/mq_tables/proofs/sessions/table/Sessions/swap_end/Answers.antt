@@ -1,18 +1,26 @@
-use Rattle.std.proofs.Common.{◌≡◌, ◌∙◌, ℕ, List, ◌++◌, take, drop, length, sym, ap, subst, arith}
-use Rattle.std.specs.HashMap.{get}
-use Rattle.std.specs.Str.{bytes_eq}
-use Rattle.mq_tables.specs.declared.sessions.session.BrokerSession.{BrokerSession}
-use Rattle.mq_tables.specs.Sessions.{AreSessions, with_server}
-use Rattle.mq_tables.proofs.SessionLemmas.{kept_with, same_length, written}
+use Rattle.std.proofs.Common.{◌≡◌, refl, sym, subst}
+use Rattle.mq_tables.specs.Sessions.{AreAscending}
+use Rattle.mq_tables.proofs.FoundSession.{find_session, some_found}
 use Rattle.mq_tables.proofs.sessions.table.Sessions.swap_end.Goals as goal
+
+pub place-at-requires : goal.place-at-requires
+place-at-requires c = subst AreAscending (sym c.as_mut_slice-list.ensures.value) c.self.invariant.ascending
+
+pub bounds-list-at : goal.bounds-list-at
+bounds-list-at c =
+    (find_session c.args.key c.self.view_is c.as_mut_slice-list.ensures.value c.self.inside.list.ok.0 c.self.invariant c.requires c.place-at.ensures.value).within
 
 pub invariant_of-self : goal.invariant_of-self
 invariant_of-self c =
-    let ts = c.self.inside.list.items in
-    let new = c.swap_at.new.list in
-    let changed : new ≡ with_server c.args.key c.args.end.now ts = c.swap_at.ensures.list ∙ ap (with_server c.args.key c.args.end.now) c.as_mut_slice.ensures.value in
-    let long : length new ≡ length ts = ap length changed ∙ same_length c.args.key c.args.end.now ts in
-    let whole : c.self.inside.list.len ≡ length ts = omega (arith, c.self.inside.list.ok.0) in
-    let same = ap (λ (n : ℕ). take n (new ++ drop (length new) ts)) whole ∙ written new ts long ∙ changed in
-    subst (λ (rs : List BrokerSession). AreSessions rs (get bytes_eq c.self.inside.keys)) (sym same)
-    (kept_with c.args.key c.args.end.now ts (get bytes_eq c.self.inside.keys) c.self.invariant)
+    let f = find_session c.args.key c.self.view_is c.as_mut_slice-list.ensures.value c.self.inside.list.ok.0 c.self.invariant c.requires c.place-at.ensures.value in
+    f.kept c.index-list-at.result (λ t. record t { end = c.args.end.now }) (λ t. refl) (λ t. refl) c.swap_end.new.self c.swap_end.ensures.session
+
+pub returns-clause-list : goal.returns-clause-list
+returns-clause-list c =
+    let f = find_session c.args.key c.self.view_is c.as_mut_slice-list.ensures.value c.self.inside.list.ok.0 c.self.invariant c.requires c.place-at.ensures.value in
+    f.after c.index-list-at.result (λ t. record t { end = c.args.end.now }) c.swap_end.new.self c.swap_end.ensures.session
+
+pub returns-clause-end : goal.returns-clause-end
+returns-clause-end c =
+    let f = find_session c.args.key c.self.view_is c.as_mut_slice-list.ensures.value c.self.inside.list.ok.0 c.self.invariant c.requires c.place-at.ensures.value in
+    some_found f c.index-list-at.result (λ t. c.swap_end.new.end ≡ t.end) c.swap_end.ensures.end
