@@ -9,6 +9,7 @@ pub mod EndPublishes
 pub mod ExpiredSessions
 pub mod FirstPackets
 pub mod FittingMessages
+pub mod FoundConnection
 pub mod FoundSession
 pub mod LoadedConnections
 pub mod LoadedParts

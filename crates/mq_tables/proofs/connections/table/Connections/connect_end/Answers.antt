@@ -1,23 +1,22 @@
-use Rattle.std.proofs.Common.{◌≡◌, ◌∙◌, List, eqb, refl, sym, ap, subst}
+use Rattle.std.proofs.Common.{◌≡◌, ◌∙◌, List, eqb, sym, ap, subst}
 use Rattle.std.specs.HashMap.{get, hash_map_len}
 use Rattle.mq_route.specs.declared.conn.Conn.{Conn}
 use Rattle.mq_route.specs.declared.connection_state.ConnectionState.TheVariants.{ConnectedAs}
-use Rattle.mq_route.specs.Hub.{HubConnection, key_on, stage_of, up_on, with_connection}
+use Rattle.mq_route.specs.Hub.{HubConnection, key_on, up_on}
 use Rattle.mq_tables.specs.declared.connections.connection.Connection.{Connection}
 use Rattle.mq_tables.specs.Connections.{service, ConnectionList, connections_of, connection_of, AreConnections}
 use Rattle.mq_tables.specs.Alarms.{IsAwaited}
 use Rattle.mq_tables.proofs.RingTimes.{alarm_awaited, found_name, still_all_awaited}
 use Rattle.mq_tables.proofs.PendingBytes.{same_decoding}
-use Rattle.mq_tables.proofs.ConnectionTable.{Entry, awaited_of, kept_anew, are_named, still_all, changed, served_at, kept_rise, found_by, up_is}
+use Rattle.mq_tables.proofs.ConnectionTable.{Entry, awaited_of, kept_anew, are_named, served_at, kept_rise, up_is}
+use Rattle.mq_tables.proofs.FoundConnection.{changed_seen, stage_seen, still_seen}
 use Rattle.mq_tables.proofs.connections.table.Connections.connect_end.Goals as goal
 
 pub returns-in_default-clause-connections : goal.returns-in_default-clause-connections
 returns-in_default-clause-connections c =
-    let es = c.self.inside.by_conn.entries in
     let f : HubConnection → HubConnection = λ x. record x { stage = ConnectedAs c.args.key c.args.terms c.args.now } in
     ap (λ m. connections_of m.entries) c.get_mut.follows.holds-at-none
-    ∙ still_all f c.args.conn es (are_named (service c.self.inside.limits c.self.inside.alarms) es c.self.invariant.served) c.in_default.ensures.value
-    ∙ ap (λ (v : ConnectionList). with_connection f c.args.conn v.connections) c.self.view_is
+    ∙ still_seen c.self.invariant c.self.view_is c.args.conn f c.in_default.ensures.value
 
 pub add_connected-requires-clause-absent : goal.add_connected-requires-clause-absent
 add_connected-requires-clause-absent c =
@@ -40,9 +39,7 @@ invariant_of-self-2 c =
     let kept = kept_anew by alarms es (get eqb ups) (hash_map_len ups) rings c.self.invariant in
     let name : k ≡ w.conn = found_name k es own (are_named by es c.self.invariant.served) there ∙ sym (ap (λ (x : Connection). x.conn) says) in
     let read = served_at by k es own c.self.invariant.served there in
-    let fresh =
-    sym (found_by (λ (x : HubConnection). x.stage) k (stage_of k) (λ x xs. refl) es own (are_named by es c.self.invariant.served) there)
-    ∙ ap (λ (v : ConnectionList). stage_of k v.connections) c.self.view_is ∙ c.requires.stage in
+    let fresh = stage_seen c.self.invariant c.self.view_is k c.in-Some.ensures.value ∙ c.requires.stage in
     subst (λ (rs : List Entry). AreConnections next rs (get eqb new) (hash_map_len new)) (sym (c.get_mut.follows.holds w).0)
     (kept_rise next k c.args.key es own w (get eqb ups) (get eqb new) (hash_map_len ups) (hash_map_len new) kept there (ap (λ (x : Connection). x.conn) says)
     (same_decoding by.bounds own.decoder w.decoder (ap (λ (x : Connection). x.decoder) says) read.0, subst (λ (n : Conn). IsAwaited by.within alarms n w.since w.stage) name (alarm_awaited by.within alarms k c.last_in_time.result w.since w.stage c.set.ensures.rings c.last_in_time.ensures))
@@ -52,9 +49,7 @@ invariant_of-self-2 c =
 
 pub returns-clause-connections : goal.returns-clause-connections
 returns-clause-connections c =
-    let es = c.self.inside.by_conn.entries in
     let f : HubConnection → HubConnection = λ x. record x { stage = ConnectedAs c.args.key c.args.terms c.args.now } in
     let w = c.connect_end.new.self in
     ap connections_of (c.get_mut.follows.holds w).0
-    ∙ changed f c.args.conn es c.in-Some.boxed.now w (are_named (service c.self.inside.limits c.self.inside.alarms) es c.self.invariant.served) c.self.invariant.distinct (sym c.in-Some.ensures.value) (ap connection_of c.connect_end.ensures)
-    ∙ ap (λ (v : ConnectionList). with_connection f c.args.conn v.connections) c.self.view_is
+    ∙ changed_seen c.self.invariant c.self.view_is c.args.conn f w c.in-Some.ensures.value (ap connection_of c.connect_end.ensures)

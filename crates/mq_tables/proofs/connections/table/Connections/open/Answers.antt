@@ -6,12 +6,12 @@ use Rattle.std.specs.List.{IsDistinct}
 use Rattle.std.specs.Map.{keys_of, lookup}
 use Rattle.mq_decode.specs.Limits.{Bounds}
 use Rattle.mq_route.specs.Routed.{same_conn}
-use Rattle.mq_route.specs.Hub.{knows}
 use Rattle.mq_tables.specs.declared.connections.connection.Connection.{Connection}
 use Rattle.mq_tables.specs.Connections.{service, ConnectionList, connections_of, connection_of, AreConnections, IsReading}
 use Rattle.mq_tables.proofs.RingTimes.{still_all_awaited}
-use Rattle.mq_tables.proofs.ConnectionTable.{Entry, are_named, awaited_of, kept_anew, known, kept_last, lines_last, not_some}
+use Rattle.mq_tables.proofs.ConnectionTable.{Entry, awaited_of, kept_anew, kept_last, lines_last, not_some}
 use Rattle.mq_tables.proofs.RetainedEntries.{entries_in}
+use Rattle.mq_tables.proofs.FoundConnection.{known_seen}
 use Rattle.mq_tables.proofs.connections.table.Connections.open.Goals as goal
 
 -- it is appended
@@ -24,8 +24,7 @@ last c =
     let room : 0 < spare c.self.inside.by_conn = subst (λ (n : ℕ). 0 < n) (sym (ap (λ (v : ConnectionList). v.room) c.self.view_is)) c.requires.room in
     let done : new ≡ insert_entry same_conn es k b = entries_in (new ≡ insert_entry same_conn es k b) c.insert.result (c.insert.ensures.succeeds room) c.insert.ensures.entries in
     let none : lookup (same_conn b.conn) es ≡ None =
-    not_some (lookup (same_conn b.conn) es) (known b.conn es (are_named (service c.self.inside.limits c.self.inside.alarms) es c.self.invariant.served)
-    ∙ ap (λ (v : ConnectionList). knows b.conn v.connections) c.self.view_is ∙ c.requires.name) in
+    not_some (lookup (same_conn b.conn) es) (known_seen c.self.invariant c.self.view_is b.conn ∙ c.requires.name) in
     done ∙ ap (λ (x : Connection). insert_entry same_conn es x.conn b) c.connection.ensures ∙ insert_entry-new same_conn c.self.inside.by_conn b.conn b none
 
 pub invariant_of-self : goal.invariant_of-self

@@ -1,20 +1,19 @@
 use Rattle.std.proofs.Common.{◌∙◌, List, [], eqb, refl, sym, ap, subst}
 use Rattle.std.specs.HashMap.{get, hash_map_len}
 use Rattle.mq_route.specs.declared.connection_state.ConnectionState.TheVariants.{Closed}
-use Rattle.mq_route.specs.Hub.{HubConnection, key_on, stage_of, with_connection}
-use Rattle.mq_tables.specs.Connections.{service, ConnectionList, connections_of, AreConnections}
+use Rattle.mq_route.specs.Hub.{HubConnection, key_on}
+use Rattle.mq_tables.specs.Connections.{service, connections_of, AreConnections}
 use Rattle.mq_tables.proofs.RingTimes.{never_late}
 use Rattle.mq_tables.proofs.PendingBytes.{empty_decoding}
-use Rattle.mq_tables.proofs.ConnectionTable.{Entry, are_named, found_by, lacks, unknown_shut, still_all, changed, served_at, kept_same, kept_shut, is_found}
+use Rattle.mq_tables.proofs.ConnectionTable.{Entry, served_at, kept_same, kept_shut, is_found}
+use Rattle.mq_tables.proofs.FoundConnection.{changed_seen, shut_seen, stage_seen, still_seen}
 use Rattle.mq_tables.proofs.connections.table.Connections.shut.Goals as goal
 
 pub returns-in_default-clause-connections : goal.returns-in_default-clause-connections
 returns-in_default-clause-connections c =
-    let es = c.self.inside.by_conn.entries in
     let f : HubConnection → HubConnection = λ x. record x { stage = Closed; held = [] } in
     ap (λ m. connections_of m.entries) c.get_mut.follows.holds-at-none
-    ∙ still_all f c.args.conn es (are_named (service c.self.inside.limits c.self.inside.alarms) es c.self.invariant.served) c.in_default.ensures.value
-    ∙ ap (λ (v : ConnectionList). with_connection f c.args.conn v.connections) c.self.view_is
+    ∙ still_seen c.self.invariant c.self.view_is c.args.conn f c.in_default.ensures.value
 
 pub remove_connected-requires : goal.remove_connected-requires
 remove_connected-requires c =
@@ -55,38 +54,28 @@ invariant_of-self-in_default-up c =
 
 pub returns-in-Some-up-clause-connections : goal.returns-in-Some-up-clause-connections
 returns-in-Some-up-clause-connections c =
-    let es = c.self.inside.by_conn.entries in
     let f : HubConnection → HubConnection = λ x. record x { stage = Closed; held = [] } in
     let w = c.shut-stage.new.self in
     ap connections_of (c.get_mut.follows.holds w).0
-    ∙ changed f c.args.conn es c.in-Some.boxed.now w (are_named (service c.self.inside.limits c.self.inside.alarms) es c.self.invariant.served) c.self.invariant.distinct (sym c.in-Some.ensures.value) c.shut-stage.ensures.line
-    ∙ ap (λ (v : ConnectionList). with_connection f c.args.conn v.connections) c.self.view_is
+    ∙ changed_seen c.self.invariant c.self.view_is c.args.conn f w c.in-Some.ensures.value c.shut-stage.ensures.line
 
 pub returns-in_default-up-clause-connections : goal.returns-in_default-up-clause-connections
 returns-in_default-up-clause-connections c =
-    let es = c.self.inside.by_conn.entries in
     let f : HubConnection → HubConnection = λ x. record x { stage = Closed; held = [] } in
     let w = c.shut-stage.new.self in
     ap connections_of (c.get_mut.follows.holds w).0
-    ∙ changed f c.args.conn es c.in-Some.boxed.now w (are_named (service c.self.inside.limits c.self.inside.alarms) es c.self.invariant.served) c.self.invariant.distinct (sym c.in-Some.ensures.value) c.shut-stage.ensures.line
-    ∙ ap (λ (v : ConnectionList). with_connection f c.args.conn v.connections) c.self.view_is
+    ∙ changed_seen c.self.invariant c.self.view_is c.args.conn f w c.in-Some.ensures.value c.shut-stage.ensures.line
 
 pub returns-in_default-clause-stage : goal.returns-in_default-clause-stage
 returns-in_default-clause-stage c =
-    let es = c.self.inside.by_conn.entries in
-    sym (unknown_shut c.args.conn (connections_of es) (lacks c.args.conn es (are_named (service c.self.inside.limits c.self.inside.alarms) es c.self.invariant.served) c.in_default.ensures.value))
-    ∙ ap (λ (v : ConnectionList). stage_of c.args.conn v.connections) c.self.view_is
+    shut_seen c.self.invariant c.self.view_is c.args.conn c.in_default.ensures.value
 
 pub returns-in-Some-up-clause-stage : goal.returns-in-Some-up-clause-stage
 returns-in-Some-up-clause-stage c =
-    let es = c.self.inside.by_conn.entries in
     c.shut-stage.ensures.stage
-    ∙ sym (found_by (λ (x : HubConnection). x.stage) c.args.conn (stage_of c.args.conn) (λ x xs. refl) es c.in-Some.boxed.now (are_named (service c.self.inside.limits c.self.inside.alarms) es c.self.invariant.served) (sym c.in-Some.ensures.value))
-    ∙ ap (λ (v : ConnectionList). stage_of c.args.conn v.connections) c.self.view_is
+    ∙ stage_seen c.self.invariant c.self.view_is c.args.conn c.in-Some.ensures.value
 
 pub returns-in_default-up-clause-stage : goal.returns-in_default-up-clause-stage
 returns-in_default-up-clause-stage c =
-    let es = c.self.inside.by_conn.entries in
     c.shut-stage.ensures.stage
-    ∙ sym (found_by (λ (x : HubConnection). x.stage) c.args.conn (stage_of c.args.conn) (λ x xs. refl) es c.in-Some.boxed.now (are_named (service c.self.inside.limits c.self.inside.alarms) es c.self.invariant.served) (sym c.in-Some.ensures.value))
-    ∙ ap (λ (v : ConnectionList). stage_of c.args.conn v.connections) c.self.view_is
+    ∙ stage_seen c.self.invariant c.self.view_is c.args.conn c.in-Some.ensures.value

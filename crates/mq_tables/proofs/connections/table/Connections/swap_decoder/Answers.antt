@@ -1,28 +1,25 @@
-use Rattle.std.proofs.Common.{◌∙◌, List, eqb, refl, true≢false, sym, ap, subst}
+use Rattle.std.proofs.Common.{◌∙◌, List, eqb, true≢false, sym, ap, subst}
 use Rattle.std.specs.HashMap.{get, hash_map_len}
 use Rattle.mq_decode.specs.Limits.{Bounds}
 use Rattle.mq_decode.specs.State.{State}
-use Rattle.mq_route.specs.Hub.{HubConnection, held_on, key_on, knows, with_connection}
+use Rattle.mq_route.specs.Hub.{HubConnection, key_on}
 use Rattle.mq_tables.specs.declared.connections.connection.Connection.{Connection}
 use Rattle.mq_tables.specs.Connections.{service, ConnectionList, connections_of, connection_of, AreConnections, IsDecoding}
 use Rattle.mq_tables.proofs.RingTimes.{same_awaited}
 use Rattle.mq_tables.proofs.PendingBytes.{same_decoding}
-use Rattle.mq_tables.proofs.ConnectionTable.{Entry, are_named, still_all, changed, served_at, kept_same, lacks, found_by}
+use Rattle.mq_tables.proofs.ConnectionTable.{Entry, served_at, kept_same}
+use Rattle.mq_tables.proofs.FoundConnection.{changed_seen, held_seen, lacks_seen, still_seen}
 use Rattle.mq_tables.proofs.connections.table.Connections.swap_decoder.Goals as goal
 
 pub returns-in_default-clause-connections : goal.returns-in_default-clause-connections
 returns-in_default-clause-connections c =
-    let es = c.self.inside.by_conn.entries in
     let f : HubConnection → HubConnection = λ x. record x { held = c.args.decoder.now.held } in
     ap (λ m. connections_of m.entries) c.get_mut.follows.holds-at-none
-    ∙ still_all f c.args.conn es (are_named (service c.self.inside.limits c.self.inside.alarms) es c.self.invariant.served) c.in_default.ensures.value
-    ∙ ap (λ (v : ConnectionList). with_connection f c.args.conn v.connections) c.self.view_is
+    ∙ still_seen c.self.invariant c.self.view_is c.args.conn f c.in_default.ensures.value
 
 pub returns-in_default-clause-held : goal.returns-in_default-clause-held
 returns-in_default-clause-held c =
-    let es = c.self.inside.by_conn.entries in
-    absurd (true≢false (sym c.requires.known ∙ sym (ap (λ (v : ConnectionList). knows c.args.conn v.connections) c.self.view_is)
-    ∙ lacks c.args.conn es (are_named (service c.self.inside.limits c.self.inside.alarms) es c.self.invariant.served) c.in_default.ensures.value))
+    absurd (true≢false (sym c.requires.known ∙ lacks_seen c.self.invariant c.self.view_is c.args.conn c.in_default.ensures.value))
 
 pub invariant_of-self-2 : goal.invariant_of-self-2
 invariant_of-self-2 c =
@@ -41,19 +38,15 @@ invariant_of-self-2 c =
 
 pub returns-clause-connections : goal.returns-clause-connections
 returns-clause-connections c =
-    let es = c.self.inside.by_conn.entries in
     let f : HubConnection → HubConnection = λ x. record x { held = c.args.decoder.now.held } in
     let w = c.swap_decoder.new.self in
     ap connections_of (c.get_mut.follows.holds w).0
-    ∙ changed f c.args.conn es c.in-Some.boxed.now w (are_named (service c.self.inside.limits c.self.inside.alarms) es c.self.invariant.served) c.self.invariant.distinct (sym c.in-Some.ensures.value) (ap connection_of c.swap_decoder.ensures.own)
-    ∙ ap (λ (v : ConnectionList). with_connection f c.args.conn v.connections) c.self.view_is
+    ∙ changed_seen c.self.invariant c.self.view_is c.args.conn f w c.in-Some.ensures.value (ap connection_of c.swap_decoder.ensures.own)
 
 pub returns-clause-held : goal.returns-clause-held
 returns-clause-held c =
-    let es = c.self.inside.by_conn.entries in
     ap (λ (d : State). d.held) c.swap_decoder.ensures.other
-    ∙ sym (found_by (λ (x : HubConnection). x.held) c.args.conn (held_on c.args.conn) (λ x xs. refl) es c.in-Some.boxed.now (are_named (service c.self.inside.limits c.self.inside.alarms) es c.self.invariant.served) (sym c.in-Some.ensures.value))
-    ∙ ap (λ (v : ConnectionList). held_on c.args.conn v.connections) c.self.view_is
+    ∙ held_seen c.self.invariant c.self.view_is c.args.conn c.in-Some.ensures.value
 
 pub returns-clause-reading : goal.returns-clause-reading
 returns-clause-reading c =

@@ -2,29 +2,25 @@ use Rattle.std.proofs.Common.{◌≡◌, ◌∙◌, List, eqb, sym, ap, subst}
 use Rattle.std.specs.HashMap.{get, hash_map_len}
 use Rattle.mq_route.specs.declared.conn.Conn.{Conn}
 use Rattle.mq_route.specs.Arrives.{touched}
-use Rattle.mq_route.specs.Hub.{HubConnection, key_on, stage_of, with_connection}
+use Rattle.mq_route.specs.Hub.{HubConnection, key_on}
 use Rattle.mq_tables.specs.declared.connections.connection.Connection.{Connection}
 use Rattle.mq_tables.specs.Connections.{service, ConnectionList, connections_of, connection_of, AreConnections}
 use Rattle.mq_tables.specs.Alarms.{IsAwaited}
 use Rattle.mq_tables.proofs.RingTimes.{alarm_awaited, found_name, heard_awaited, still_all_awaited}
 use Rattle.mq_tables.proofs.PendingBytes.{same_decoding}
-use Rattle.mq_tables.proofs.ConnectionTable.{Entry, awaited_of, kept_anew, are_named, still_all, changed, served_at, kept_same, heard_key, lacks, never_none, own_at, own_key, set_at, unknown_shut}
+use Rattle.mq_tables.proofs.ConnectionTable.{Entry, awaited_of, kept_anew, are_named, served_at, kept_same, heard_key, never_none, own_at, set_at}
+use Rattle.mq_tables.proofs.FoundConnection.{changed_seen, shut_seen, stage_seen, still_seen}
 use Rattle.mq_tables.proofs.connections.table.Connections.touched.Goals as goal
 
 pub returns-in_default-clause-connections : goal.returns-in_default-clause-connections
 returns-in_default-clause-connections c =
-    let es = c.self.inside.by_conn.entries in
     let f : HubConnection → HubConnection = λ x. record x { stage = touched c.args.now x.stage } in
     sym (ap (λ (v : ConnectionList). v.connections) c.self.view_is)
-    ∙ still_all f c.args.conn es (are_named (service c.self.inside.limits c.self.inside.alarms) es c.self.invariant.served) (sym c.in_default.ensures.none)
-    ∙ ap (λ (v : ConnectionList). with_connection f c.args.conn v.connections) c.self.view_is
+    ∙ still_seen c.self.invariant c.self.view_is c.args.conn f (sym c.in_default.ensures.none)
 
 pub returns-in_default-clause-key : goal.returns-in_default-clause-key
 returns-in_default-clause-key c =
-    let es = c.self.inside.by_conn.entries in
-    ap key_on (sym (unknown_shut c.args.conn (connections_of es)
-    (lacks c.args.conn es (are_named (service c.self.inside.limits c.self.inside.alarms) es c.self.invariant.served) (sym c.in_default.ensures.none))))
-    ∙ ap (λ (v : ConnectionList). key_on (stage_of c.args.conn v.connections)) c.self.view_is
+    ap key_on (shut_seen c.self.invariant c.self.view_is c.args.conn (sym c.in_default.ensures.none))
 
 -- an index that was found has a connection
 pub returns-in_default-get_index_mut-clause-connections : goal.returns-in_default-get_index_mut-clause-connections
@@ -87,8 +83,7 @@ returns-then-is_earlier-clause-connections c =
     let w = c.touched.new.self in
     let there = own_at k c.in-Some.index es own c.self.invariant.distinct c.in-Some.ensures.some c.in-Some-get_index_mut.ensures.value in
     ap connections_of (set_at k c.in-Some.index es w c.self.invariant.distinct c.in-Some.ensures.some)
-    ∙ changed f k es own w (are_named (service c.self.inside.limits c.self.inside.alarms) es c.self.invariant.served) c.self.invariant.distinct there (ap connection_of c.touched.ensures)
-    ∙ ap (λ (v : ConnectionList). with_connection f k v.connections) c.self.view_is
+    ∙ changed_seen c.self.invariant c.self.view_is k f w (sym there) (ap connection_of c.touched.ensures)
 
 pub returns-else-is_earlier-clause-connections : goal.returns-else-is_earlier-clause-connections
 returns-else-is_earlier-clause-connections c =
@@ -99,23 +94,18 @@ returns-else-is_earlier-clause-connections c =
     let w = c.touched.new.self in
     let there = own_at k c.in-Some.index es own c.self.invariant.distinct c.in-Some.ensures.some c.in-Some-get_index_mut.ensures.value in
     ap connections_of (set_at k c.in-Some.index es w c.self.invariant.distinct c.in-Some.ensures.some)
-    ∙ changed f k es own w (are_named (service c.self.inside.limits c.self.inside.alarms) es c.self.invariant.served) c.self.invariant.distinct there (ap connection_of c.touched.ensures)
-    ∙ ap (λ (v : ConnectionList). with_connection f k v.connections) c.self.view_is
+    ∙ changed_seen c.self.invariant c.self.view_is k f w (sym there) (ap connection_of c.touched.ensures)
 
 pub returns-then-is_earlier-clause-key : goal.returns-then-is_earlier-clause-key
 returns-then-is_earlier-clause-key c =
     let es = c.self.inside.by_conn.entries in
     let own = c.in-Some-get_index_mut.boxed.now in
     c.key-key.ensures
-    ∙ own_key c.args.conn es own (service c.self.inside.limits c.self.inside.alarms) c.self.invariant.served
-    (own_at c.args.conn c.in-Some.index es own c.self.invariant.distinct c.in-Some.ensures.some c.in-Some-get_index_mut.ensures.value)
-    ∙ ap (λ (v : ConnectionList). key_on (stage_of c.args.conn v.connections)) c.self.view_is
+    ∙ ap key_on (stage_seen c.self.invariant c.self.view_is c.args.conn (sym (own_at c.args.conn c.in-Some.index es own c.self.invariant.distinct c.in-Some.ensures.some c.in-Some-get_index_mut.ensures.value)))
 
 pub returns-else-is_earlier-clause-key : goal.returns-else-is_earlier-clause-key
 returns-else-is_earlier-clause-key c =
     let es = c.self.inside.by_conn.entries in
     let own = c.in-Some-get_index_mut.boxed.now in
     c.key-key.ensures
-    ∙ own_key c.args.conn es own (service c.self.inside.limits c.self.inside.alarms) c.self.invariant.served
-    (own_at c.args.conn c.in-Some.index es own c.self.invariant.distinct c.in-Some.ensures.some c.in-Some-get_index_mut.ensures.value)
-    ∙ ap (λ (v : ConnectionList). key_on (stage_of c.args.conn v.connections)) c.self.view_is
+    ∙ ap key_on (stage_seen c.self.invariant c.self.view_is c.args.conn (sym (own_at c.args.conn c.in-Some.index es own c.self.invariant.distinct c.in-Some.ensures.some c.in-Some-get_index_mut.ensures.value)))
