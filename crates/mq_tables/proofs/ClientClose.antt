@@ -8,8 +8,6 @@ use Rattle.mq_route.specs.Hub.{HubSession, HubConnection, is_connection, key_on,
 use Rattle.mq_tables.specs.declared.sessions.session.BrokerSession.{BrokerSession}
 use Rattle.mq_tables.specs.Connections.{left_with}
 use Rattle.mq_tables.specs.Sessions.{session_of, sessions_of, session_at, with_server, without_key}
-use Rattle.mq_tables.proofs.RefusedConnect.{changed_twice}
-use Rattle.mq_tables.proofs.ClosedConnection.{closed}
 
 -- ---- connections
 
@@ -47,10 +45,9 @@ without_with key e (s ∷ ts) = go (eqb s.key key) refl (without_with key e ts)
 
 -- the connection has the pending output of the session's end then
 pub left_lines : (k : Conn) (o : Option BrokerSession) (b : List ℕ) (xs ys : List HubConnection) → IfSome o (λ s. b ≡ s.end.output)
-    → ys ≡ with_connection (λ x. record x { waiting = b }) k (with_connection closed k xs) → IfSome o (λ s. ys ≡ with_connection (left_with s.end.output) k xs)
+    → ys ≡ with_connection (left_with b) k xs → IfSome o (λ s. ys ≡ with_connection (left_with s.end.output) k xs)
 left_lines k None b xs ys is says = tt
-left_lines k (Some s) b xs ys is says =
-    says ∙ changed_twice k closed (λ x. record x { waiting = b }) (λ x. refl) xs ∙ ap (λ (c : List ℕ). with_connection (left_with c) k xs) is
+left_lines k (Some s) b xs ys is says = says ∙ ap (λ (c : List ℕ). with_connection (left_with c) k xs) is
 
 -- for the session of a connected connection
 pub lines_there : (k : Conn) (key : ℕ) (s : BrokerSession) (ts : List BrokerSession) (xs ys : List HubConnection) → session_at key ts ≡ Some s

@@ -143,9 +143,7 @@ impl<S: FilterStore> Tables<S> {
     {
         let mut output = ByteQueue::new(alloc);
         self.sessions.detach(key, &mut output);
-        let stage = self.connections.shut(conn);
-        self.connections.swap_waiting(conn, &mut output);
-        stage
+        self.connections.shut_with(conn, output)
     }
 
     /// Removes a connection on which no client is connected (4.2).

@@ -1,7 +1,7 @@
 //! The table of connections (4.2).
 
 ghost use Rattle.std.specs.Prelude.{◌≡◌, ◌⊎◌, ◌+◌, ◌*◌, ◌≤◌, ◌<◌, ℕ, [], ◌∷◌, ◌++◌, length, map, slice_get, Some, None, nat_eq, true, false, is_some, if◌then◌else◌, OnOk, OnErr, IfNone, IfOk, IfSome};
-ghost use Rattle.mq_tables.specs.Prelude.{get, hash_map_len, AllByRecursion, IsDistinct, IsNonDecreasing, keys_of, lookup, remove_entry, option_copied, option_map, touched, held_on, key_on, knows, stage_of, up_on, waiting_on, with_connection, without_connection, same_conn, listed, saved_connection, up_count, AreAwaited, AreAwaitedBut, IsAwaited, RingsWith, connection_of, connections_of, IsDecoding, IsNamedAt, IsReading, AreInTime, HasLate, HasLateNamed};
+ghost use Rattle.mq_tables.specs.Prelude.{get, hash_map_len, AllByRecursion, IsDistinct, IsNonDecreasing, keys_of, lookup, remove_entry, option_copied, option_map, touched, held_on, key_on, knows, stage_of, up_on, waiting_on, with_connection, without_connection, same_conn, listed, saved_connection, up_count, AreAwaited, AreAwaitedBut, IsAwaited, RingsWith, connection_of, connections_of, IsDecoding, IsNamedAt, IsReading, left_with, AreInTime, HasLate, HasLateNamed};
 ghost use Rattle.std.specs.HashMap.{spare};
 
 use crate::alarms::Alarms;
@@ -484,6 +484,22 @@ impl Connections {
             return;
         };
         boxed.swap_waiting(waiting);
+    }
+
+    /// Closes a connection (4.8), with these bytes as its pending output, and returns its state
+    /// before. The incomplete packet is dropped.
+    pub(crate) fn shut_with(&mut self, conn: Conn, waiting: ByteQueue) -> ConnectionState
+        requires { knows conn self.old.connections ≡ true }
+        ensures stage { result ≡ stage_of conn self.old.connections }
+        ensures connections { self.new.connections ≡ with_connection (left_with waiting) conn self.old.connections }
+        ensures limits { self.new.limits ≡ self.old.limits }
+        ensures room { self.new.room ≡ self.old.room }
+        ensures up_room { self.old.up_room ≤ self.new.up_room }
+    {
+        let mut bytes = waiting;
+        let stage = self.shut(conn);
+        self.swap_waiting(conn, &mut bytes);
+        stage
     }
 
     /// Returns the indices of the connections that may be late at this time, in ascending order. It

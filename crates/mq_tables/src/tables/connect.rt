@@ -67,9 +67,7 @@ impl<S: FilterStore> Tables<S> {
         ensures limits { self.new.connections.limits ≡ self.old.connections.limits }
         ensures rest { self.new ≡ record self.old { connections = self.new.connections } }
     {
-        let mut bytes = waiting;
-        self.connections.swap_waiting(conn, &mut bytes);
-        let _ = self.connections.shut(conn);
+        let _ = self.connections.shut_with(conn, waiting);
     }
 
     /// Makes room for one more connected client.
@@ -164,11 +162,8 @@ impl<S: FilterStore> Tables<S> {
             → HasConnectRoomAt c key ms more self.new.sessions.list }
         ensures rest { self.new ≡ record self.old { sessions = self.new.sessions; connections = self.new.connections } }
     {
-        let mut output = waiting;
         self.sessions.lose_connection(key);
-        let stage = self.connections.shut(conn);
-        self.connections.swap_waiting(conn, &mut output);
-        stage
+        self.connections.shut_with(conn, waiting)
     }
 
     /// Connects a connection for a session, whose end has room for the CONNECT and processes it
