@@ -20,18 +20,15 @@ use Rattle.mq_end.specs.Both.{has_identifier, publishes_at}
 use Rattle.mq_end.specs.End.{End, is_up}
 use Rattle.mq_end.specs.Sizes.{identifier_size, publish_size}
 use Rattle.mq_end.specs.State.{EndState}
-use Rattle.mq_route.specs.Work.{drops_copies, leaves, publish_bytes, publishes_next}
+use Rattle.mq_route.specs.Work.{drops_copies, publish_bytes, publishes_next}
 use Rattle.mq_tables.specs.declared.rules.CopyRules.{CopyRules}
 use Rattle.mq_tables.specs.declared.space.Space.{Space}
 use Rattle.mq_tables.specs.Publishing.{published}
 use Rattle.mq_tables.specs.Rules.{fits_left, free_of, left_of, skips, space_after, space_of}
 use Rattle.mq_tables.proofs.EndPublishes.{after_state, after_uses}
+pub use Rattle.mq_tables.proofs.SessionRoom.{leaves_is}
 
 -- ---- limits
-
-pub leaves_is : (o : Option ℕ) (used more : ℕ) → leaves o used more ≡ fits_left (left_of o used) more
-leaves_is None used more = refl
-leaves_is (Some most) used more = refl
 
 -- what a limit leaves after more is used
 pub left_twice : (o : Option ℕ) (used total more : ℕ) → total ≡ used + more → left_of o total ≡ left_of (left_of o used) more
