@@ -24,6 +24,9 @@ const MOST_WEIGHT: usize = 16_777_216;
 
 /// A broker with the journal of its steps since a base.
 ///
+/// Call `step` for each event. If it returns `JournalFull`, call `checkpoint`, which returns the
+/// journal and begins another one at the present broker, and pass the event to `step` again.
+///
 /// The steps that the entries record lead from the base to the broker. Only contracts see the base.
 #[derive(Drop)]
 pub struct Book<L: Ledger> {
