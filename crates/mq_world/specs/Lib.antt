@@ -19,3 +19,4 @@ pub mod SettlesOver
 pub mod Settling
 pub mod Time
 pub mod World
+pub mod Inside

@@ -32,3 +32,13 @@ pub record AcceptedGrows (old new : Accepted) : Type 0 where
   pub at_most_once : (more : List Message) × (new.at_most_once ≡ old.at_most_once ++ more)
   pub at_least_once : (more : List (ℕ × Message)) × (new.at_least_once ≡ old.at_least_once ++ more)
   pub exactly_once : (more : List Message) × (new.exactly_once ≡ old.exactly_once ++ more)
+
+-- Each list of delivered messages is as it was, perhaps with more messages behind.
+pub record HandedGrows (old new : HandedOn) : Type 0 where
+  pub at_most_once : (more : List Message) × (new.at_most_once ≡ old.at_most_once ++ more)
+  pub at_least_once : (more : List Message) × (new.at_least_once ≡ old.at_least_once ++ more)
+  pub exactly_once : (more : List Message) × (new.exactly_once ≡ old.exactly_once ++ more)
+
+-- The list of freed places is as it was, perhaps with more places behind.
+abbrev pub FreedGrows : List ℕ → List ℕ → Type 0
+FreedGrows old new = (more : List ℕ) × (new ≡ old ++ more)

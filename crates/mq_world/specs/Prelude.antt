@@ -14,7 +14,8 @@ pub use Rattle.mq_world.specs.Examples.{Examples}
 pub use Rattle.mq_world.specs.Half.{accepted_with, freed_with, none_accepted, none_handed}
 pub use Rattle.mq_world.specs.Headline.{HeadlineLaw, Headline}
 pub use Rattle.mq_world.specs.Identifiers.{IdentifiersLaw}
-pub use Rattle.mq_world.specs.Listed.{accepted_in, handed_in, accepted_count, handed_count, AcceptedGrows}
+pub use Rattle.mq_world.specs.Listed.{accepted_in, handed_in, accepted_count, handed_count, AcceptedGrows, HandedGrows, FreedGrows}
+pub use Rattle.mq_world.specs.Inside.Listed.{TellsMore}
 pub use Rattle.mq_world.specs.Machine.{Machine, first_packet}
 pub use Rattle.mq_world.specs.MadeUp.{made_event, made_message, made_qos, made_side, made_up}
 pub use Rattle.mq_world.specs.OverBytes.{handed_with, OverBytes, Stands, near, left_on}

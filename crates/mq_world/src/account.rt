@@ -36,7 +36,7 @@ pub struct Account {
 }
 
 impl Account {
-    ghost use Rattle.mq_world.specs.Prelude.{answered_identifier, accepted_with, freed_with, none_accepted, none_handed, handed_with, accepted_in, handed_in, accepted_count, handed_count};
+    ghost use Rattle.mq_world.specs.Prelude.{answered_identifier, accepted_with, freed_with, none_accepted, none_handed, handed_with, accepted_in, handed_in, accepted_count, handed_count, TellsMore, HandedGrows, FreedGrows};
 
     /// An account without messages.
     pub fn new(alloc: Global) -> Account
@@ -86,8 +86,8 @@ impl Account {
     ) -> Result<(), AllocError>
         ensures accepted { OnOk result ((i : ℕ) → id ≡ answered_identifier message.qos i
             → accepted_in self.new ≡ accepted_with message.qos i message (accepted_in self.old)) }
-        ensures handed { OnOk result (handed_in self.new ≡ handed_in self.old) }
-        ensures freed { OnOk result (self.new.freed.items ≡ self.old.freed.items) }
+        ensures handed { handed_in self.new ≡ handed_in self.old }
+        ensures freed { self.new.freed.items ≡ self.old.freed.items }
         ensures err { OnErr result (accepted_in self.new ≡ accepted_in self.old) }
     {
         match (message.qos, id) {
@@ -108,7 +108,8 @@ impl Account {
     fn hand(&mut self, message: Message) -> Result<(), AllocError>
         ensures handed { OnOk result (handed_in self.new ≡ handed_with (Happening.Handed message ∷ []) (handed_in self.old)) }
         ensures accepted { accepted_in self.new ≡ accepted_in self.old }
-        ensures freed { OnOk result (self.new.freed.items ≡ self.old.freed.items) }
+        ensures freed { self.new.freed.items ≡ self.old.freed.items }
+        ensures err { OnErr result (handed_in self.new ≡ handed_in self.old) }
     {
         match message.qos {
             Qos::Q0 => self.handed_at_most_once.push(message)?,
@@ -119,10 +120,12 @@ impl Account {
     }
 
     // Records the messages that `happenings` deliver.
+    #[tactic(auto, using(crate::proofs::Growing::handed_none, crate::proofs::Growing::handed_more_grows, crate::proofs::Growing::handed_still_grows))]
     fn hand_all(&mut self, happenings: &[Happening]) -> Result<(), AllocError>
         ensures handed { OnOk result (handed_in self.new ≡ handed_with happenings.now (handed_in self.old)) }
         ensures accepted { accepted_in self.new ≡ accepted_in self.old }
-        ensures freed { OnOk result (self.new.freed.items ≡ self.old.freed.items) }
+        ensures freed { self.new.freed.items ≡ self.old.freed.items }
+        ensures grows { HandedGrows (handed_in self.old) (handed_in self.new) }
     {
         for happening in happenings {
             if let Happening::Handed(message) = happening {
@@ -133,11 +136,13 @@ impl Account {
     }
 
     // Records the places of the messages with the acknowledged identifiers.
+    #[tactic(auto, using(crate::proofs::Growing::freed_none, crate::proofs::Growing::freed_more_grows))]
     fn free_all(&mut self, acknowledged: &[PacketId]) -> Result<(), AllocError>
         ensures freed { OnOk result (self.new.freed.items
             ≡ freed_with self.old.accepted_at_least_once.items acknowledged.now self.old.freed.items) }
         ensures accepted { accepted_in self.new ≡ accepted_in self.old }
-        ensures handed { OnOk result (handed_in self.new ≡ handed_in self.old) }
+        ensures handed { handed_in self.new ≡ handed_in self.old }
+        ensures grows { FreedGrows self.old.freed.items self.new.freed.items }
     {
         for id in acknowledged {
             let place = self.places.get(&id.get()).copied().unwrap_or(0);
@@ -147,11 +152,13 @@ impl Account {
     }
 
     // Records the effect of received bytes.
+    #[tactic(auto, using(crate::proofs::Growing::tells_handed, crate::proofs::Growing::tells_freed))]
     pub(crate) fn tell(&mut self, progress: &Progress) -> Result<(), AllocError>
         ensures handed { OnOk result (handed_in self.new ≡ handed_with progress.now.happenings (handed_in self.old)) }
         ensures freed { OnOk result (self.new.freed.items
             ≡ freed_with (accepted_in self.old).at_least_once progress.now.acknowledged self.old.freed.items) }
         ensures accepted { accepted_in self.new ≡ accepted_in self.old }
+        ensures grows { TellsMore self.old self.new }
     {
         self.hand_all(progress.happenings.as_slice())?;
         self.free_all(progress.acknowledged.as_slice())

@@ -1,7 +1,7 @@
 //! Two ends that are joined by two wires of bytes, and their reaction to each event.
 
 ghost use Rattle.std.specs.Prelude.{◌≡◌, ◌++◌, ◌↔◌, ◌<◌, ◌&&◌, ℕ, true, false, not, nat_lt, take, drop, length, OnOk, OnErr, IfOk, IfSome, IsTrue};
-ghost use Rattle.mq_world.specs.Prelude.{Bounds, is_live, connect_of, IsSpanned, AcceptedGrows, accepted_in, Machine, first_packet, Stands, near, left_on, wired_of, SettledFrom, Does, IsDelivered, IsOpened, IsSettled, IsIdle, MetNoWant};
+ghost use Rattle.mq_world.specs.Prelude.{Bounds, is_live, connect_of, IsSpanned, AcceptedGrows, TellsMore, accepted_in, Machine, first_packet, Stands, near, left_on, wired_of, SettledFrom, Does, IsDelivered, IsOpened, IsSettled, IsIdle, MetNoWant};
 
 use crate::answer::{Answer, DeliveredBytes, Opening, Settling};
 use crate::event::Event;
@@ -39,7 +39,7 @@ pub(crate) struct Pair {
 
 impl Pair {
     // Publishes a message at the client.
-    #[tactic(auto, using(crate::proofs::Growing::grows_none))]
+    #[tactic(auto, using(crate::proofs::Growing::grows_none, crate::proofs::Growing::tells_none))]
     fn publish_at_client(&mut self, message: &Message) -> Result<Answer, AllocError>
         ensures does { IfOk result (λ answer. (limit : Bounds) (capacity : ℕ) (m : Machine) → Stands limit capacity (wired_of self.old) m
             → Does limit capacity (Event.Publish Side.Client message.now) answer (wired_of self.old) (wired_of self.new)) }
@@ -47,6 +47,8 @@ impl Pair {
         ensures answers { self.new.trace.answers ≡ self.old.trace.answers }
         ensures at_client { AcceptedGrows (accepted_in self.old.trace.client) (accepted_in self.new.trace.client) }
         ensures at_server { accepted_in self.new.trace.server ≡ accepted_in self.old.trace.server }
+        ensures told_client { TellsMore self.old.trace.client self.new.trace.client }
+        ensures told_server { TellsMore self.old.trace.server self.new.trace.server }
     {
         over_bytes();
         match self.client.publish(message.clone()?) {
@@ -61,7 +63,7 @@ impl Pair {
     }
 
     // Publishes a message at the server.
-    #[tactic(auto, using(crate::proofs::Growing::grows_none))]
+    #[tactic(auto, using(crate::proofs::Growing::grows_none, crate::proofs::Growing::tells_none))]
     fn publish_at_server(&mut self, message: &Message) -> Result<Answer, AllocError>
         ensures does { IfOk result (λ answer. (limit : Bounds) (capacity : ℕ) (m : Machine) → Stands limit capacity (wired_of self.old) m
             → Does limit capacity (Event.Publish Side.Server message.now) answer (wired_of self.old) (wired_of self.new)) }
@@ -69,6 +71,8 @@ impl Pair {
         ensures answers { self.new.trace.answers ≡ self.old.trace.answers }
         ensures at_client { accepted_in self.new.trace.client ≡ accepted_in self.old.trace.client }
         ensures at_server { AcceptedGrows (accepted_in self.old.trace.server) (accepted_in self.new.trace.server) }
+        ensures told_client { TellsMore self.old.trace.client self.new.trace.client }
+        ensures told_server { TellsMore self.old.trace.server self.new.trace.server }
     {
         over_bytes();
         match self.server.publish(message.clone()?) {
@@ -83,6 +87,7 @@ impl Pair {
     }
 
     // Delivers `count` bytes to the client, or all in flight to it if there are fewer.
+    #[tactic(auto, using(crate::proofs::Growing::tells_none))]
     fn deliver_to_client(&mut self, count: usize) -> Result<DeliveredBytes, AllocError>
         ensures delivered { IfOk result (λ delivery. (limit : Bounds) (capacity : ℕ) (m : Machine) → Stands limit capacity (wired_of self.old) m
             → IsDelivered limit capacity Side.Client count delivery (wired_of self.old) (wired_of self.new)) }
@@ -90,6 +95,8 @@ impl Pair {
         ensures answers { self.new.trace.answers ≡ self.old.trace.answers }
         ensures at_client { accepted_in self.new.trace.client ≡ accepted_in self.old.trace.client }
         ensures at_server { accepted_in self.new.trace.server ≡ accepted_in self.old.trace.server }
+        ensures told_client { TellsMore self.old.trace.client self.new.trace.client }
+        ensures told_server { TellsMore self.old.trace.server self.new.trace.server }
     {
         over_bytes();
         let live = is_live(self.client.state());
@@ -109,6 +116,7 @@ impl Pair {
     }
 
     // Delivers `count` bytes to the server, or all in flight to it if there are fewer.
+    #[tactic(auto, using(crate::proofs::Growing::tells_none))]
     fn deliver_to_server(&mut self, count: usize) -> Result<DeliveredBytes, AllocError>
         ensures delivered { IfOk result (λ delivery. (limit : Bounds) (capacity : ℕ) (m : Machine) → Stands limit capacity (wired_of self.old) m
             → IsDelivered limit capacity Side.Server count delivery (wired_of self.old) (wired_of self.new)) }
@@ -116,6 +124,8 @@ impl Pair {
         ensures answers { self.new.trace.answers ≡ self.old.trace.answers }
         ensures at_client { accepted_in self.new.trace.client ≡ accepted_in self.old.trace.client }
         ensures at_server { accepted_in self.new.trace.server ≡ accepted_in self.old.trace.server }
+        ensures told_client { TellsMore self.old.trace.client self.new.trace.client }
+        ensures told_server { TellsMore self.old.trace.server self.new.trace.server }
     {
         over_bytes();
         let live = is_live(self.server.state());
@@ -142,6 +152,8 @@ impl Pair {
         ensures answers { self.new.trace.answers ≡ self.old.trace.answers }
         ensures at_client { accepted_in self.new.trace.client ≡ accepted_in self.old.trace.client }
         ensures at_server { accepted_in self.new.trace.server ≡ accepted_in self.old.trace.server }
+        ensures told_client { TellsMore self.old.trace.client self.new.trace.client }
+        ensures told_server { TellsMore self.old.trace.server self.new.trace.server }
     {
         match side {
             Side::Client => self.deliver_to_client(count),
@@ -157,6 +169,8 @@ impl Pair {
         ensures answers { self.new.trace.answers ≡ self.old.trace.answers }
         ensures at_client { accepted_in self.new.trace.client ≡ accepted_in self.old.trace.client }
         ensures at_server { accepted_in self.new.trace.server ≡ accepted_in self.old.trace.server }
+        ensures told_client { TellsMore self.old.trace.client self.new.trace.client }
+        ensures told_server { TellsMore self.old.trace.server self.new.trace.server }
     {
         match side {
             Side::Client => {
@@ -171,6 +185,7 @@ impl Pair {
     }
 
     // Drops the connection of a side, with all bytes in flight to it.
+    #[tactic(auto, using(crate::proofs::Growing::tells_none))]
     fn lose(&mut self, side: Side) -> Answer
         ensures does { (limit : Bounds) (capacity : ℕ) (m : Machine) → Stands limit capacity (wired_of self.old) m
             → Does limit capacity (Event.Drop side) result (wired_of self.old) (wired_of self.new) }
@@ -178,6 +193,8 @@ impl Pair {
         ensures answers { self.new.trace.answers ≡ self.old.trace.answers }
         ensures at_client { accepted_in self.new.trace.client ≡ accepted_in self.old.trace.client }
         ensures at_server { accepted_in self.new.trace.server ≡ accepted_in self.old.trace.server }
+        ensures told_client { TellsMore self.old.trace.client self.new.trace.client }
+        ensures told_server { TellsMore self.old.trace.server self.new.trace.server }
     {
         over_bytes();
         match side {
@@ -198,6 +215,7 @@ impl Pair {
 
     // Ends the client's program, which continues with its session as saved. If an allocation for
     // that fails, the dropped end stays.
+    #[tactic(auto, using(crate::proofs::Growing::tells_none))]
     fn restart(&mut self, terms: Terms) -> Answer
         requires config { connect_of self.old.client.config false ≡ first_packet }
         requires stands { (m : Machine) × Stands terms.limits terms.capacity (wired_of self.old) m }
@@ -209,6 +227,8 @@ impl Pair {
         ensures answers { self.new.trace.answers ≡ self.old.trace.answers }
         ensures at_client { accepted_in self.new.trace.client ≡ accepted_in self.old.trace.client }
         ensures at_server { accepted_in self.new.trace.server ≡ accepted_in self.old.trace.server }
+        ensures told_client { TellsMore self.old.trace.client self.new.trace.client }
+        ensures told_server { TellsMore self.old.trace.server self.new.trace.server }
     {
         over_bytes();
         let _most = terms.limits.max_packet();
@@ -228,6 +248,7 @@ impl Pair {
     }
 
     // Disconnects the client.
+    #[tactic(auto, using(crate::proofs::Growing::tells_none))]
     fn leave(&mut self) -> Result<Answer, AllocError>
         ensures does { IfOk result (λ answer. (limit : Bounds) (capacity : ℕ) (m : Machine) → Stands limit capacity (wired_of self.old) m
             → Does limit capacity Event.Leave answer (wired_of self.old) (wired_of self.new)) }
@@ -235,6 +256,8 @@ impl Pair {
         ensures answers { self.new.trace.answers ≡ self.old.trace.answers }
         ensures at_client { accepted_in self.new.trace.client ≡ accepted_in self.old.trace.client }
         ensures at_server { accepted_in self.new.trace.server ≡ accepted_in self.old.trace.server }
+        ensures told_client { TellsMore self.old.trace.client self.new.trace.client }
+        ensures told_server { TellsMore self.old.trace.server self.new.trace.server }
     {
         over_bytes();
         if let Err(why) = self.client.disconnect() {
@@ -247,6 +270,7 @@ impl Pair {
     }
 
     // Advances the client's clock and calls its `tick`.
+    #[tactic(auto, using(crate::proofs::Growing::tells_none))]
     fn tick_client(&mut self, more: u64) -> Result<Answer, AllocError>
         ensures does { IfOk result (λ answer. (limit : Bounds) (capacity : ℕ) (m : Machine) → Stands limit capacity (wired_of self.old) m
             → Does limit capacity (Event.Tick Side.Client more) answer (wired_of self.old) (wired_of self.new)) }
@@ -254,6 +278,8 @@ impl Pair {
         ensures answers { self.new.trace.answers ≡ self.old.trace.answers }
         ensures at_client { accepted_in self.new.trace.client ≡ accepted_in self.old.trace.client }
         ensures at_server { accepted_in self.new.trace.server ≡ accepted_in self.old.trace.server }
+        ensures told_client { TellsMore self.old.trace.client self.new.trace.client }
+        ensures told_server { TellsMore self.old.trace.server self.new.trace.server }
     {
         over_bytes();
         self.client_clock = self.client_clock.saturating_add(more);
@@ -266,6 +292,7 @@ impl Pair {
     }
 
     // Moves the clock of the server on, and tells it the time.
+    #[tactic(auto, using(crate::proofs::Growing::tells_none))]
     fn tick_server(&mut self, more: u64) -> Answer
         ensures does { (limit : Bounds) (capacity : ℕ) (m : Machine) → Stands limit capacity (wired_of self.old) m
             → Does limit capacity (Event.Tick Side.Server more) result (wired_of self.old) (wired_of self.new) }
@@ -273,6 +300,8 @@ impl Pair {
         ensures answers { self.new.trace.answers ≡ self.old.trace.answers }
         ensures at_client { accepted_in self.new.trace.client ≡ accepted_in self.old.trace.client }
         ensures at_server { accepted_in self.new.trace.server ≡ accepted_in self.old.trace.server }
+        ensures told_client { TellsMore self.old.trace.client self.new.trace.client }
+        ensures told_server { TellsMore self.old.trace.server self.new.trace.server }
     {
         over_bytes();
         self.server_clock = self.server_clock.saturating_add(more);
@@ -282,6 +311,7 @@ impl Pair {
     }
 
     // Opens a new connection from the client.
+    #[tactic(auto, using(crate::proofs::Growing::tells_none))]
     fn open(&mut self) -> Opening
         requires config { connect_of self.old.client.config false ≡ first_packet }
         ensures opened { (limit : Bounds) (capacity : ℕ) (m : Machine) → Stands limit capacity (wired_of self.old) m
@@ -290,6 +320,8 @@ impl Pair {
         ensures answers { self.new.trace.answers ≡ self.old.trace.answers }
         ensures at_client { accepted_in self.new.trace.client ≡ accepted_in self.old.trace.client }
         ensures at_server { accepted_in self.new.trace.server ≡ accepted_in self.old.trace.server }
+        ensures told_client { TellsMore self.old.trace.client self.new.trace.client }
+        ensures told_server { TellsMore self.old.trace.server self.new.trace.server }
     {
         over_bytes();
         let client_dropped = is_live(self.client.state());
@@ -327,6 +359,8 @@ impl Pair {
         ensures answers { self.new.trace.answers ≡ self.old.trace.answers }
         ensures at_client { AcceptedGrows (accepted_in self.old.trace.client) (accepted_in self.new.trace.client) }
         ensures at_server { AcceptedGrows (accepted_in self.old.trace.server) (accepted_in self.new.trace.server) }
+        ensures told_client { TellsMore self.old.trace.client self.new.trace.client }
+        ensures told_server { TellsMore self.old.trace.server self.new.trace.server }
     {
         match event {
             Event::Publish(Side::Client, message) => self.publish_at_client(message),
@@ -343,6 +377,7 @@ impl Pair {
 
     /// Opens a connection and makes three exchanges, each of which delivers all bytes in flight to
     /// the server, then all in flight to the client.
+    #[tactic(auto, using(crate::proofs::Growing::tells_then))]
     pub(crate) fn settle(&mut self) -> Result<Settling, AllocError>
         requires config { connect_of self.old.client.config false ≡ first_packet }
         ensures settled { IfOk result (λ s. (limit : Bounds) (capacity : ℕ) (m : Machine) → Stands limit capacity (wired_of self.old) m
@@ -353,6 +388,8 @@ impl Pair {
         ensures answers { self.new.trace.answers ≡ self.old.trace.answers }
         ensures at_client { accepted_in self.new.trace.client ≡ accepted_in self.old.trace.client }
         ensures at_server { accepted_in self.new.trace.server ≡ accepted_in self.old.trace.server }
+        ensures told_client { TellsMore self.old.trace.client self.new.trace.client }
+        ensures told_server { TellsMore self.old.trace.server self.new.trace.server }
     {
         over_bytes();
         settles_over_bytes();

@@ -1,7 +1,7 @@
 //! A client and a server under a list of events.
 
 ghost use Rattle.std.specs.Prelude.{◌≡◌, ◌<◌, ◌≤◌, ◌↔◌, All, None, Some, ◌∷◌, ◌++◌, [], true, false, Ok, IfOk, IfSome, IsSome, IsErr, OnOk, OnErr};
-ghost use Rattle.mq_world.specs.Prelude.{Spans, Wired, HaveWindow, seen, Headline, Machine, Stands, near, AcceptedGrows, accepted_in, handed_in, SettledFrom, Does, IsNeverFull, IsNew, Leads, MetNoWant, Settles};
+ghost use Rattle.mq_world.specs.Prelude.{Spans, Wired, HaveWindow, seen, Headline, Machine, Stands, near, AcceptedGrows, HandedGrows, FreedGrows, accepted_in, handed_in, SettledFrom, Does, IsNeverFull, IsNew, Leads, MetNoWant, Settles};
 
 use crate::account::Account;
 use crate::answer::Answer;
@@ -172,6 +172,10 @@ impl World {
         ensures kept { OnErr result (self.new.answers ≡ self.old.answers) }
         ensures at_client { AcceptedGrows self.old.wired.client.accepted self.new.wired.client.accepted }
         ensures at_server { AcceptedGrows self.old.wired.server.accepted self.new.wired.server.accepted }
+        ensures handed_at_client { HandedGrows self.old.wired.client.handed self.new.wired.client.handed }
+        ensures handed_at_server { HandedGrows self.old.wired.server.handed self.new.wired.server.handed }
+        ensures freed_at_client { FreedGrows self.old.wired.client.freed self.new.wired.client.freed }
+        ensures freed_at_server { FreedGrows self.old.wired.server.freed self.new.wired.server.freed }
         ensures limit { self.new.limit ≡ self.old.limit }
         ensures capacity { self.new.capacity ≡ self.old.capacity }
         ensures window { self.new.window ≡ self.old.window }
@@ -211,6 +215,10 @@ impl World {
         ensures kept { OnErr result (self.new.answers ≡ self.old.answers) }
         ensures at_client { self.new.wired.client.accepted ≡ self.old.wired.client.accepted }
         ensures at_server { self.new.wired.server.accepted ≡ self.old.wired.server.accepted }
+        ensures handed_at_client { HandedGrows self.old.wired.client.handed self.new.wired.client.handed }
+        ensures handed_at_server { HandedGrows self.old.wired.server.handed self.new.wired.server.handed }
+        ensures freed_at_client { FreedGrows self.old.wired.client.freed self.new.wired.client.freed }
+        ensures freed_at_server { FreedGrows self.old.wired.server.freed self.new.wired.server.freed }
         ensures limit { self.new.limit ≡ self.old.limit }
         ensures capacity { self.new.capacity ≡ self.old.capacity }
         ensures window { self.new.window ≡ self.old.window }

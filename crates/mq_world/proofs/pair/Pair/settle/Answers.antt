@@ -2,6 +2,7 @@ use Rattle.std.proofs.Common.{◌+◌, List, take, refl, sym, subst, ◌∙◌, 
 use Rattle.mq_world.specs.declared.answer.DeliveredBytes.{DeliveredBytes}
 use Rattle.mq_world.specs.Pairs.{wired_of}
 use Rattle.mq_world.specs.World.{InTurn, exchanges}
+use Rattle.mq_world.proofs.Growing.{tells_then}
 use Rattle.mq_world.proofs.Worlds.{stands_turned, turn_next}
 use Rattle.mq_world.proofs.Settled.{all_turned, turn_split, left_twice, left_settled}
 use Rattle.mq_world.proofs.pair.Pair.settle.Goals as goal
@@ -22,6 +23,8 @@ loop-side-preserved c = record {
   answers = c.deliver_all.ensures.answers ∙ c.loop-side.invariant.answers;
   at_client = c.deliver_all.ensures.at_client ∙ c.loop-side.invariant.at_client;
   at_server = c.deliver_all.ensures.at_server ∙ c.loop-side.invariant.at_server;
+  told_client = tells_then _ _ _ c.loop-side.invariant.told_client c.deliver_all.ensures.told_client;
+  told_server = tells_then _ _ _ c.loop-side.invariant.told_server c.deliver_all.ensures.told_server;
 }
 
 pub returns-clause-settled : goal.returns-clause-settled

@@ -1,6 +1,7 @@
 use Rattle.std.proofs.Common.{subst}
 use Rattle.mq_world.specs.Pairs.{wired_of}
 use Rattle.mq_flow.specs.Window.{Spans}
+use Rattle.mq_world.specs.Listed.{FreedGrows}
 use Rattle.mq_world.specs.World.{WorldState, IsNeverFull}
 use Rattle.mq_world.proofs.Telling.{stands_done}
 use Rattle.mq_world.proofs.Fitting.{have_still, have_spanned, fits_done}
@@ -37,3 +38,7 @@ returns-clause-fits c =
     subst (λ (z : WorldState). Spans z.window z.capacity → IsNeverFull c.in_ok-answer.answer) c.self.view_is
     (λ spans. fits_done f.limits f.capacity c.args.event.now c.in_ok-answer.answer (wired_of f.pair) (wired_of c.make.new.self) st.0 st.1
     (c.in_ok-answer.ensures.does f.limits f.capacity st.0 st.1) (have_spanned f.capacity f.window (wired_of f.pair) st.2 spans))
+
+pub returns-in_err-push-clause-freed_at_server : goal.returns-in_err-push-clause-freed_at_server
+returns-in_err-push-clause-freed_at_server c =
+    subst (λ (z : WorldState). FreedGrows z.wired.server.freed c.make.new.self.trace.server.freed.items) c.self.view_is c.make.ensures.told_server.freed
