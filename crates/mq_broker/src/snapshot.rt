@@ -8,7 +8,7 @@ use std::io;
 use std::io::Write;
 
 // Appends the line about a snapshot.
-#[tactic(auto, unfolding(crate::specs::Snapshots::snapshot_line))]
+#[tactic(auto, unfolding(crate::specs::Inside::Snapshots::snapshot_line))]
 fn write_snapshot<W: Write>(output: &mut W, note: SnapshotNote) -> io::Result<()>
     ensures { OnOk result (Appends (W.contents output.old) (W.contents output.new) (snapshot_line note)) }
 {
