@@ -1,30 +1,39 @@
--- The outcomes of a crash in each of the two steps of a `put`.
-use Rattle.std.proofs.Common.{◌≡◌, ℕ, ◌+◌, ◌<◌, ◌^◌, List, [], ◌∷◌, ◌++◌, length, get_or, take, drop, sym, ◌∙◌, ap, subst, arith, append_assoc, length-append, take-append-drop}
-use Rattle.std.proofs.lemmas.List.{take_at, drop_at, drop_more, take_all, drop_all, append-nil}
+-- The outcomes of a crash in each of the two steps of a `put`, and the files that they leave.
+use Rattle.std.proofs.Common.{◌≡◌, ℕ, ◌+◌, ◌<◌, ◌^◌, List, [], ◌∷◌, ◌++◌, length, get_or, take, drop, refl, sym, ◌∙◌, ap, subst, arith, append_assoc, length-append, take-append-drop}
+use Rattle.std.proofs.lemmas.List.{take_at, drop_at, drop_more, take_all, take-take, drop_all, append-nil}
 use Rattle.mq_log.specs.Disk.{Holds, Torn, Follows, Only}
-use Rattle.mq_log.specs.Blocks.{entries, body, blocks, at_rest, AreShort}
+use Rattle.mq_log.specs.Blocks.{entries, head, body, blocks, at_rest, staged, AreShort}
 use Rattle.mq_log.specs.Journal.{IsSettled, IsBeforeOrAfter}
 use Rattle.mq_log.specs.declared.journal.Journal.{Journal}
 use Rattle.mq_log.proofs.BlockLemmas.{blocks-push, entries-shut, before, either}
 
--- the file with a block behind the closed gate
-abbrev pub staged : List (List ℕ) → List ℕ → List ℕ
-staged ps p = blocks ps ++ (0 ∷ (body p ++ 0 ∷ []))
+-- the bytes up to the closed gate are those of a file at rest
+abbrev pub Keeps : List (List ℕ) → ℕ → List ℕ → Type 0
+Keeps ps end c = take (end + 1) c ≡ at_rest ps
 
 module _ (ps : List (List ℕ)) (end : ℕ) (ends : end ≡ length (blocks ps)) (short : AreShort ps) where
-  length-at_rest : length (at_rest ps) ≡ end + 1
+  pub length-at_rest : length (at_rest ps) ≡ end + 1
   length-at_rest = omega (arith, ends, length-append (blocks ps) (0 ∷ []))
 
   pub at_start : (p : List ℕ) → IsBeforeOrAfter ps p (at_rest ps)
   at_start p = before ps p 0 [] short (λ is. absurd (omega (arith, is)))
 
-  -- the closed gate remains in each outcome of the first write
-  torn_behind : (n : ℕ) (p c : List ℕ) → Torn (end + 1) n (at_rest ps) c → IsBeforeOrAfter ps p c
-  torn_behind n p c torn =
-      let front : take (end + 1) c ≡ at_rest ps = torn.before ∙ take_all _ _ (omega (arith, length-at_rest)) in
+  -- no other entry is there
+  pub kept : (p c : List ℕ) → Keeps ps end c → IsBeforeOrAfter ps p c
+  kept p c front =
       let whole : c ≡ blocks ps ++ 0 ∷ drop (end + 1) c =
       sym (take-append-drop (end + 1) c) ∙ ap (λ (l : List ℕ). l ++ drop (end + 1) c) front ∙ append_assoc (blocks ps) (0 ∷ []) (drop (end + 1) c) in
       subst (IsBeforeOrAfter ps p) (sym whole) (before ps p 0 (drop (end + 1) c) short (λ is. absurd (omega (arith, is))))
+
+  pub keeps_only : (old : List ℕ → Type 0) → Only (at_rest ps) old → (c : List ℕ) → old c → Keeps ps end c
+  keeps_only old only c left = ap (take (end + 1)) (only c left) ∙ take_all _ _ (omega (arith, length-at_rest))
+
+  -- they remain in each outcome of a write behind them
+  pub keeps_more : (at n : ℕ) (old new : List ℕ → Type 0) → end + 1 ≤ at → ((c : List ℕ) → old c → Keeps ps end c)
+      → Follows (Torn at n) old new → (c : List ℕ) → new c → Keeps ps end c
+  keeps_more at n old new le keeps follows c left =
+      let from = follows c left in
+      sym (take-take (end + 1) at c le) ∙ ap (take (end + 1)) from.2.2.before ∙ take-take (end + 1) at from.0 le ∙ keeps from.0 from.2.1
 
   pub written_behind : (p c : List ℕ) → Holds (at_rest ps) (end + 1) (body p ++ 0 ∷ []) c → c ≡ staged ps p
   written_behind p c holds =
@@ -66,17 +75,26 @@ module _ (ps : List (List ℕ)) (end : ℕ) (ends : end ≡ length (blocks ps)) 
       ∙ append_assoc (blocks ps) (1 ∷ []) (body p ++ 0 ∷ [])
       ∙ sym (blocks-push ps p (0 ∷ []))
 
-  pub stage_crash : (n : ℕ) (p : List ℕ) (old new : List ℕ → Type 0) → Only (at_rest ps) old → Follows (Torn (end + 1) n) old new
-      → (c : List ℕ) → new c → IsBeforeOrAfter ps p c
-  stage_crash n p old new only follows c left =
-      let from = follows c left in
-      torn_behind n p c (subst (λ f. Torn (end + 1) n f c) (only from.0 from.1) from.2)
-
   pub gate_crash : (p : List ℕ) (old new : List ℕ → Type 0) → length p < 2 ^ 32 → Only (staged ps p) old → Follows (Torn end 1) old new
       → (c : List ℕ) → new c → IsBeforeOrAfter ps p c
   gate_crash p old new low only follows c left =
       let from = follows c left in
       torn_gate p c low (subst (λ f. Torn end 1 f c) (only from.0 from.1) from.2)
+
+-- bytes written at the end of a file
+pub appended : (file bytes new : List ℕ) (at : ℕ) → at ≡ length file → Holds file at bytes new → new ≡ file ++ bytes
+appended file bytes new at ends holds =
+    holds
+    ∙ ap (λ (l : List ℕ). l ++ bytes ++ drop (at + length bytes) file) (take_all _ _ (omega (arith, ends)))
+    ∙ ap (λ (l : List ℕ). file ++ bytes ++ l) (drop_all (at + length bytes) file (omega (arith, ends)))
+    ∙ append-nil (file ++ bytes)
+
+pub length-head : (p : List ℕ) → length (head p) ≡ 8
+length-head p = refl
+
+-- the three parts of a block, one behind the other
+pub staged_parts : (ps : List (List ℕ)) (p : List ℕ) → ((at_rest ps ++ head p) ++ p) ++ 0 ∷ [] ≡ staged ps p
+staged_parts ps p = search (rules, append_assoc)
 
 -- the offset of the closed gate behind one more block
 pub ends_at : (ps : List (List ℕ)) (p : List ℕ) (end n : ℕ) → end ≡ length (blocks ps) → n ≡ length (body p ++ 0 ∷ [])

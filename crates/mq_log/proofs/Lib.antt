@@ -3,3 +3,4 @@ mod Crash
 mod JournalLaws
 mod Kept
 mod Runs
+mod Staging

@@ -6,6 +6,10 @@ use Rattle.mq_log.specs.Checksum.{checksum}
 use Rattle.mq_log.specs.declared.reader.Tail.{Tail}
 use Rattle.mq_log.specs.declared.reader.Tail.TheVariants.{Closed, Torn, CutShort, Damaged}
 
+-- the length and the checksum of an entry
+abbrev pub head : List ℕ → List ℕ
+head entry = to_be_bytes w32 (length entry) ++ to_be_bytes w32 (checksum entry)
+
 -- the block of an entry without its gate
 abbrev pub body : List ℕ → List ℕ
 body entry = to_be_bytes w32 (length entry) ++ (to_be_bytes w32 (checksum entry) ++ entry)
@@ -18,6 +22,10 @@ blocks (entry ∷ more) = 1 ∷ (body entry ++ blocks more)
 -- the file of a journal at rest: its blocks, and a closed gate
 abbrev pub at_rest : List (List ℕ) → List ℕ
 at_rest all = blocks all ++ 0 ∷ []
+
+-- that file with the block of one more entry behind its gate, and a closed gate behind the block
+abbrev pub staged : List (List ℕ) → List ℕ → List ℕ
+staged all entry = blocks all ++ (0 ∷ (body entry ++ 0 ∷ []))
 
 -- the length of each fits in four bytes
 abbrev pub AreShort : List (List ℕ) → Type 0

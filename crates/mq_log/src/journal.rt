@@ -1,7 +1,7 @@
 //! Appending entries.
 
 ghost use Rattle.std.specs.Prelude.{◌≡◌, ◌+◌, ◌<◌, ◌≤◌, ◌^◌, ◌++◌, [], ◌∷◌, List, ℕ, length, IfOk, OnOk, IsErrOf};
-ghost use Rattle.mq_log.specs.Prelude.{entries, at_rest, body, Only, LeavesOnly, IsSettled, IsBeforeOrAfter};
+ghost use Rattle.mq_log.specs.Prelude.{entries, at_rest, body, head, staged, HasCause, KeepsEntries, Only, LeavesOnly, IsSettled, IsBeforeOrAfter};
 
 use crate::sum::checksum;
 use crate::{Disk, DiskError};
@@ -9,8 +9,11 @@ use std::alloc::{AllocError, Global};
 
 /// A file of at least this length takes no more entries.
 const MAX_LEN: usize = 1 << 60;
-/// The bytes of a block that `closed_block` adds to its entry.
-const BESIDES: usize = 9;
+/// The bytes of a block between its gate and its entry.
+const HEAD_LEN: usize = 8;
+/// An entry of at most this length is copied, to be written in one call. A longer one is not copied
+/// and takes two calls more.
+const MOST_COPIED: usize = 65_536;
 
 /// A journal that is open for appending.
 #[derive(Drop)]
@@ -41,15 +44,26 @@ pub fn begin<D: Disk>(disk: &mut D) -> Result<(), DiskError>
     Ok(())
 }
 
+// The bytes of a block between its gate and its entry: the length and the checksum.
+fn head_of(entry: &[u8]) -> [u8; 8]
+    requires { length entry.now < 2 ^ 32 }
+    ensures { result ≡ head entry.now }
+{
+    let len = (entry.len() as u32).to_be_bytes();
+    let sum = checksum(entry).to_be_bytes();
+    [
+        len[0], len[1], len[2], len[3], sum[0], sum[1], sum[2], sum[3],
+    ]
+}
+
 // The block of an entry without its gate, and a closed gate behind it.
 fn closed_block(alloc: Global, entry: &[u8]) -> Result<Vec<u8>, AllocError>
     requires { length entry.now < 2 ^ 32 }
     ensures { IfOk result (λ block. block.items ≡ body entry.now ++ 0 ∷ []) }
 {
     let mut block = Vec::new(alloc);
-    block.reserve(entry.len() + BESIDES)?;
-    block.extend_from_slice(&(entry.len() as u32).to_be_bytes())?;
-    block.extend_from_slice(&checksum(entry).to_be_bytes())?;
+    block.reserve(HEAD_LEN + entry.len() + 1)?;
+    block.extend_from_slice(&head_of(entry))?;
     block.extend_from_slice(entry)?;
     block.push(0)?;
     Ok(block)
@@ -71,7 +85,7 @@ impl<D: Disk> Journal<D> {
     /// After an `Err` the journal must not be used again, because the file may hold the entry or
     /// not. Continue in a new file, after reading this one.
     ///
-    /// Costs two writes and two syncs. Errors:
+    /// Costs two syncs, and two writes or, for an entry of more than 64 KiB, four. Errors:
     ///
     /// - `Failed` if the disk failed.
     /// - `Full` if the file has 2^60 bytes or more.
@@ -95,13 +109,58 @@ impl<D: Disk> Journal<D> {
         if self.end >= MAX_LEN {
             return Err(DiskError::Full);
         }
-        let block = closed_block(alloc, entry)?;
+        self.stage(alloc, entry)?;
         let gate = self.end;
-        self.disk.write_at(gate + 1, block.as_slice())?;
         self.disk.sync()?;
         self.disk.write_at(gate, &[1])?;
         self.disk.sync()?;
-        self.end = gate + block.len();
+        self.end = gate + 1 + HEAD_LEN + entry.len();
+        Ok(())
+    }
+
+    // Writes the block of an entry behind the closed gate, and a closed gate behind the block.
+    fn stage(&mut self, alloc: Global, entry: &[u8]) -> Result<(), DiskError>
+        requires settled { IsSettled D.seen D.may_leave self.old }
+        requires short { length entry.now < 2 ^ 32 }
+        requires room { self.old.end < 2 ^ 60 }
+        ensures staged { OnOk result (D.seen self.new.disk ≡ staged (entries (D.seen self.old.disk)) entry.now) }
+        ensures keeps { KeepsEntries D.seen D.may_leave D.clock D.left_since entry.now self.old self.new }
+        ensures cause { HasCause (D.faults self.old.disk) (D.faults self.new.disk) result }
+    {
+        if entry.len() <= MOST_COPIED {
+            self.stage_copy(alloc, entry)
+        } else {
+            self.stage_parts(entry)
+        }
+    }
+
+    // Does so in one write of a copy.
+    fn stage_copy(&mut self, alloc: Global, entry: &[u8]) -> Result<(), DiskError>
+        requires settled { IsSettled D.seen D.may_leave self.old }
+        requires short { length entry.now < 2 ^ 32 }
+        requires room { self.old.end < 2 ^ 60 }
+        ensures staged { OnOk result (D.seen self.new.disk ≡ staged (entries (D.seen self.old.disk)) entry.now) }
+        ensures keeps { KeepsEntries D.seen D.may_leave D.clock D.left_since entry.now self.old self.new }
+        ensures cause { HasCause (D.faults self.old.disk) (D.faults self.new.disk) result }
+    {
+        let block = closed_block(alloc, entry)?;
+        self.disk.write_at(self.end + 1, block.as_slice())?;
+        Ok(())
+    }
+
+    // Does so in three writes without a copy.
+    fn stage_parts(&mut self, entry: &[u8]) -> Result<(), DiskError>
+        requires settled { IsSettled D.seen D.may_leave self.old }
+        requires short { length entry.now < 2 ^ 32 }
+        requires room { self.old.end < 2 ^ 60 }
+        ensures staged { OnOk result (D.seen self.new.disk ≡ staged (entries (D.seen self.old.disk)) entry.now) }
+        ensures keeps { KeepsEntries D.seen D.may_leave D.clock D.left_since entry.now self.old self.new }
+        ensures cause { HasCause (D.faults self.old.disk) (D.faults self.new.disk) result }
+    {
+        let at = self.end + 1;
+        self.disk.write_at(at, &head_of(entry))?;
+        self.disk.write_at(at + HEAD_LEN, entry)?;
+        self.disk.write_at(at + HEAD_LEN + entry.len(), &[0])?;
         Ok(())
     }
 }
