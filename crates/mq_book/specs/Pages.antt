@@ -33,6 +33,10 @@ pub record WorkerView : Type 0 where
   pub worker : ℕ
   pub count : ℕ
 
+-- A shared broker: the maximum number of entries of its journal.
+pub record SharedView : Type 0 where
+  pub limit : ℕ
+
 -- The entries that are stored, and the number of those for which there is room.
 pub record LogView : Type 0 where
   pub items : List Entry
@@ -74,6 +78,10 @@ after_checkpoint book = record {
   hub = book.hub;
   limit = book.limit;
 }
+
+-- the book with another limit
+abbrev pub with_limit : ℕ → Pages → Pages
+with_limit limit book = record book { limit = limit }
 
 -- the bytes that an event brings
 abbrev pub brought : HubEvent → ℕ

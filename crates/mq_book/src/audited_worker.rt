@@ -37,6 +37,7 @@ impl<'a, L: Ledger, R: Wait, H: StepObserver> Model for AuditedWorker<'a, L, R, 
       worker = w.share.worker;
       count = w.share.count;
       on_full = w.on_full;
+      limit = w.shared.now.limit;
       observed = H.observed w.observer;
       receipts = w.receipts.items;
     } };
@@ -56,6 +57,7 @@ impl<'a, L: Ledger, R: Wait, H: StepObserver> AuditedWorker<'a, L, R, H> {
           worker = share.worker;
           count = share.count;
           on_full = on_full;
+          limit = shared.now.limit;
           observed = H.observed observer;
           receipts = [];
         } }
@@ -96,20 +98,16 @@ impl<'a, L: Ledger, R: Wait, H: StepObserver> Stepper for AuditedWorker<'a, L, R
 
     ghost steps_to = { AuditedStep };
 
-    ghost stops = { λ w event why. StopsFor w.on_full event why };
+    ghost stops = { λ w event why. StopsFor w.on_full w.limit event why };
 
     /// Makes the step under the lock, releases the lock, calls the observer and keeps the receipt.
     fn step(&mut self, event: HubEvent) -> Result<SharedReply, WorkEnd> {
         if self.receipts.reserve(1).is_err() {
             return Err(WorkEnd::Memory);
         }
-        let (answer, journal) = self
+        let receipt = self
             .shared
-            .book
-            .lock(self.rt)
-            .step_on(self.rt, &mut self.share, event, self.on_full);
-        drop(journal);
-        let receipt = answer?;
+            .step(self.rt, &mut self.share, event, self.on_full)?;
         let reply = receipt.reply.another(self.rt);
         self.observer
             .on_step(self.rt, self.share.worker(), reply.as_reply());

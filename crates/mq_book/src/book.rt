@@ -1,7 +1,7 @@
 //! A broker with a journal of its steps.
 
 ghost use Rattle.std.specs.Prelude.{◌≡◌, ◌+◌, ◌<◌, ◌∷◌, [], ◌++◌, ◌↔◌, length, None, IfOk, IfErr, IfSome, IsSome, IsTrue, OnOk, OnErr};
-ghost use Rattle.mq_book.specs.Prelude.{HubStep, event_refusal, Checkpoint, IsDue, JournalledStep, RefusedAs, RefusedOn, after_checkpoint, checkpointed, journal_of, Replay};
+ghost use Rattle.mq_book.specs.Prelude.{HubStep, event_refusal, Checkpoint, IsDue, JournalledStep, RefusedAs, RefusedOn, after_checkpoint, checkpointed, journal_of, with_limit, HasHistory, Replay};
 
 use crate::entry::{Entry, Receipt};
 use crate::entry_log::EntryLog;
@@ -42,7 +42,7 @@ impl<L: Ledger> Model for Book<L> {
     ghost use Rattle.std.specs.FinSet as set;
     ghost use Rattle.std.specs.Ordering.{nat_cmp};
     ghost use Rattle.mq_book.specs.Pages.{Pages};
-    ghost use Rattle.mq_book.specs.Replays.{Replay};
+    ghost use Rattle.mq_book.specs.Replays.{HasPast, Replay};
 
     ghost Value = { Pages };
 
@@ -51,11 +51,13 @@ impl<L: Ledger> Model for Book<L> {
     ghost view = { λ b. record { base = b.base.value; first = b.first; entries = b.log.items; hub = b.hub; limit = b.limit } };
 
     ghost invariant = { λ b. Replay b.base.value b.log.items b.hub
-        × (b.first + length b.log.items ≡ b.steps.total) × (b.first + length b.log.items < 2 ^ 64) };
+        × (b.first + length b.log.items ≡ b.steps.total) × (b.first + length b.log.items < 2 ^ 64)
+        × HasPast b.first b.base.value };
 }
 
 impl<L: Ledger> Book<L> {
     /// A book with an empty journal of at most `limit` entries. `steps` counts its steps.
+    #[tactic(auto, using(crate::proofs::Histories::past_none))]
     pub fn new(alloc: Global, hub: Hub, limit: usize, steps: ledger::Book<L>) -> Book<L>
         requires { steps.total ≡ 0 }
         ensures { result ≡ record { base = hub; first = 0; entries = []; hub = hub; limit = limit } }
@@ -69,6 +71,14 @@ impl<L: Ledger> Book<L> {
             limit,
             steps,
         }
+    }
+
+    // Sets the maximum number of entries.
+    pub(crate) fn limit_to(&mut self, limit: usize)
+        ensures book { self.new ≡ with_limit limit self.old }
+        ensures history { HasHistory self.new }
+    {
+        self.limit = limit;
     }
 
     /// The broker now.
@@ -184,6 +194,7 @@ impl<L: Ledger> Book<L> {
     }
 
     /// Replaces the journal by an empty one, whose base is the broker now, and returns it.
+    #[tactic(auto, using(crate::proofs::Histories::past_then))]
     pub fn checkpoint(&mut self) -> Journal
         ensures sealed { result ≡ journal_of self.old }
         ensures replays { Replay result.base result.entries result.end }

@@ -36,6 +36,7 @@ impl<'a, L: Ledger, R: Wait, H: StepObserver> Model for Worker<'a, L, R, H> {
       worker = w.share.worker;
       count = w.share.count;
       on_full = w.on_full;
+      limit = w.shared.now.limit;
       observed = H.observed w.observer;
     } };
 }
@@ -53,6 +54,7 @@ impl<'a, L: Ledger, R: Wait, H: StepObserver> Worker<'a, L, R, H> {
           worker = share.worker;
           count = share.count;
           on_full = on_full;
+          limit = shared.now.limit;
           observed = H.observed observer;
         } }
     {
@@ -78,17 +80,13 @@ impl<'a, L: Ledger, R: Wait, H: StepObserver> Stepper for Worker<'a, L, R, H> {
 
     ghost steps_to = { WorkerStep };
 
-    ghost stops = { λ w event why. StopsFor w.on_full event why };
+    ghost stops = { λ w event why. StopsFor w.on_full w.limit event why };
 
     /// Makes the step under the lock, releases the lock, and calls the observer.
     fn step(&mut self, event: HubEvent) -> Result<SharedReply, WorkEnd> {
-        let (answer, journal) = self
+        let receipt = self
             .shared
-            .book
-            .lock(self.rt)
-            .step_on(self.rt, &mut self.share, event, self.on_full);
-        drop(journal);
-        let receipt = answer?;
+            .step(self.rt, &mut self.share, event, self.on_full)?;
         self.observer
             .on_step(self.rt, receipt.worker, receipt.reply.as_reply());
         Ok(receipt.reply)
