@@ -4,6 +4,7 @@ ghost use Rattle.std.specs.Prelude.{◌≡◌, ◌≢◌, ◌==◌, ◌≤◌, �
 ghost use Rattle.mq_loop.specs.Prelude.{All, Blocked, Failed, ComesIn, Sends, finishes};
 
 use crate::socket::{Socket, WriteOutcome};
+use crate::waiting::Waiting;
 use bytes::Bytes;
 use mq_stream::ReadOutcome;
 use std::alloc::Global;
@@ -27,11 +28,13 @@ pub struct Connection<S: Socket> {
     socket: S,
     is_broken: bool,
     is_finished: bool,
-    unread: Bytes,
-    kept: Bytes,
+    // `None` if no bytes wait, so that an idle connection is smaller.
+    waiting: Option<Box<Waiting>>,
 }
 
 impl<S: Socket> Model for Connection<S> {
+    ghost use Rattle.std.specs.Prelude.{[]};
+    ghost use Rattle.std.specs.Option.{option_map_or};
     ghost use Rattle.mq_loop.specs.Accounts.{Line};
 
     ghost Value = { Line };
@@ -39,8 +42,8 @@ impl<S: Socket> Model for Connection<S> {
     ghost view = { λ c. record {
       came = S.came c.socket;
       went = S.went c.socket;
-      unread = c.unread;
-      kept = c.kept;
+      unread = option_map_or (λ b. b.value.unread) c.waiting [];
+      kept = option_map_or (λ b. b.value.kept) c.waiting [];
       broken = c.is_broken;
       full = S.full c.socket;
       finished = c.is_finished;
@@ -62,10 +65,9 @@ impl<S: Socket> Connection<S> {
     {
         Connection {
             socket,
-            unread: Bytes::new(),
-            kept: Bytes::new(),
             is_broken: false,
             is_finished: false,
+            waiting: None,
         }
     }
 
@@ -75,14 +77,20 @@ impl<S: Socket> Connection<S> {
         ensures none { result ≡ false → self.now.kept ≡ [] }
         ensures kept { result ≡ true → ¬ self.now.kept ≡ [] }
     {
-        !self.kept.is_empty()
+        match &self.waiting {
+            Some(waiting) => !waiting.kept.is_empty(),
+            None => false,
+        }
     }
 
     /// The number of bytes that are kept.
     pub fn kept(&self) -> usize
         ensures { result ≡ length self.now.kept }
     {
-        self.kept.len()
+        match &self.waiting {
+            Some(waiting) => waiting.kept.len(),
+            None => 0,
+        }
     }
 
     /// Whether the connection must be ended: nothing more comes from its socket, it failed, or
@@ -118,7 +126,10 @@ impl<S: Socket> Connection<S> {
     pub fn unread(&self) -> &[u8]
         ensures { result.now ≡ self.now.unread }
     {
-        self.unread.as_slice()
+        match &self.waiting {
+            Some(waiting) => waiting.unread.as_slice(),
+            None => &[],
+        }
     }
 
     /// Whether bytes wait for a step, or the connection must be ended.
@@ -128,7 +139,7 @@ impl<S: Socket> Connection<S> {
         if self.is_finished() {
             return true;
         }
-        !self.unread.is_empty()
+        !self.unread().is_empty()
     }
 
     /// Drops the first bytes of those that wait for a step.
@@ -136,10 +147,39 @@ impl<S: Socket> Connection<S> {
         requires { count ≤ length self.old.unread }
         ensures { self.new ≡ record self.old { unread = drop count self.old.unread } }
     {
-        self.unread.advance(count);
-        if self.unread.is_empty() {
-            // Drops the memory of the bytes.
-            self.unread = Bytes::new();
+        if let Some(waiting) = self.waiting.take() {
+            let mut waiting = waiting;
+            waiting.skip_unread(count);
+            self.waiting = Some(waiting);
+        }
+        self.drop_idle();
+    }
+
+    // Frees the memory for bytes that wait, if none do.
+    fn drop_idle(&mut self)
+        ensures { self.new ≡ self.old }
+    {
+        let mut spare = None;
+        self.release(&mut spare);
+    }
+
+    /// Moves the memory for bytes that wait to `spare`, if none do.
+    pub fn release(&mut self, spare: &mut Option<Box<Waiting>>)
+        ensures { self.new ≡ self.old }
+    {
+        if self.has_idle_memory() {
+            *spare = self.waiting.take();
+        }
+    }
+
+    // Whether the connection has memory for bytes that wait, and none do.
+    fn has_idle_memory(&self) -> bool
+        ensures unread { result ≡ true → self.now.unread ≡ [] }
+        ensures kept { result ≡ true → self.now.kept ≡ [] }
+    {
+        match &self.waiting {
+            Some(waiting) => waiting.is_empty(),
+            None => false,
         }
     }
 
@@ -150,21 +190,59 @@ impl<S: Socket> Connection<S> {
             ⊎ (self.new ≡ record self.old { broken = true }) }
     {
         if bytes.is_empty() {
-            self.unread = Bytes::new();
+            self.drop_unread();
             return;
         }
         match Bytes::copy_from_slice(alloc, bytes) {
-            Ok(bytes) => self.unread = bytes,
+            Ok(bytes) => self.put_unread(alloc, bytes),
             Err(_) => self.is_broken = true,
         }
     }
 
-    /// Keeps collected output. Nothing must be kept before.
-    pub fn keep(&mut self, output: Bytes)
+    // Drops the bytes that wait for a step.
+    fn drop_unread(&mut self)
+        ensures { self.new ≡ record self.old { unread = [] } }
+    {
+        if let Some(waiting) = &mut self.waiting {
+            waiting.unread = Bytes::new();
+        }
+        self.drop_idle();
+    }
+
+    // Stores bytes that wait for a step. If an allocation fails, marks that they are lost.
+    fn put_unread(&mut self, alloc: Global, bytes: Bytes)
+        ensures { (self.new ≡ record self.old { unread = bytes })
+            ⊎ (self.new ≡ record self.old { broken = true }) }
+    {
+        if let Some(waiting) = &mut self.waiting {
+            waiting.unread = bytes;
+            return;
+        }
+        let waiting = Waiting {
+            unread: bytes,
+            kept: Bytes::new(),
+        };
+        match Box::new(alloc, waiting) {
+            Ok(waiting) => self.waiting = Some(waiting),
+            Err(_) => self.is_broken = true,
+        }
+    }
+
+    /// Keeps collected output, in `room` unless other bytes wait. No output must be kept before.
+    pub fn keep(&mut self, room: Box<Waiting>, output: Bytes)
         requires { self.old.kept ≡ [] }
         ensures { self.new ≡ record self.old { kept = output } }
     {
-        self.kept = output;
+        if let Some(waiting) = &mut self.waiting {
+            waiting.kept = output;
+            return;
+        }
+        let mut room = room;
+        *room = Waiting {
+            unread: Bytes::new(),
+            kept: output,
+        };
+        self.waiting = Some(room);
     }
 
     /// Writes the kept output, as far as the socket takes it.
@@ -177,19 +255,41 @@ impl<S: Socket> Connection<S> {
         ensures failed { result ≡ Failed → self.new.finished ≡ true }
         ensures sound { result ≢ Failed → self.new.finished ≡ self.old.finished }
     {
-        for _ in 0..u64::MAX {
-            if self.kept.is_empty() {
-                // Drops the memory of the output that is written.
-                self.kept = Bytes::new();
-                return Flushed::All;
+        let Some(waiting) = self.waiting.take() else {
+            return Flushed::All;
+        };
+        let mut waiting = waiting;
+        let flushed = write_kept(&mut self.socket, &mut waiting.kept);
+        self.waiting = Some(waiting);
+        match flushed {
+            Flushed::Failed => {
+                self.is_finished = true;
+                Flushed::Failed
             }
-            match self.socket.write(self.kept.as_slice()) {
-                WriteOutcome::Bytes(count) => self.kept.advance(count),
-                WriteOutcome::Nothing => return Flushed::Blocked,
-                WriteOutcome::Failed => break,
-            }
+            Flushed::All | Flushed::Blocked => flushed,
         }
-        self.is_finished = true;
-        Flushed::Failed
     }
+}
+
+// Writes kept output, as far as the socket takes it.
+#[tactic(auto, using(crate::proofs::Sent::sends_none))]
+fn write_kept<S: Socket>(socket: &mut S, kept: &mut Bytes) -> Flushed
+    ensures went { Sends (S.went socket.old) kept.old (S.went socket.new) kept.new }
+    ensures came { S.came socket.new ≡ S.came socket.old }
+    ensures all { result ≡ All → kept.new ≡ [] }
+    ensures blocked { result ≡ Blocked → S.full socket.new ≡ true }
+{
+    for _ in 0..u64::MAX {
+        if kept.is_empty() {
+            // Drops the memory of the output that is written.
+            *kept = Bytes::new();
+            return Flushed::All;
+        }
+        match socket.write(kept.as_slice()) {
+            WriteOutcome::Bytes(count) => kept.advance(count),
+            WriteOutcome::Nothing => return Flushed::Blocked,
+            WriteOutcome::Failed => return Flushed::Failed,
+        }
+    }
+    Flushed::Failed
 }

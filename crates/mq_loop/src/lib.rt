@@ -29,6 +29,7 @@ mod seat;
 mod served;
 mod socket;
 mod turns;
+mod waiting;
 mod watched;
 
 pub use crate::broker::{Broker, CommitFailure, SnapshotBroker, SnapshotNote};
@@ -38,3 +39,4 @@ pub use crate::observer::{NoObserver, Observer};
 pub use crate::report::Report;
 pub use crate::served::{Given, Heard, Served};
 pub use crate::socket::{NonBlocking, Socket, WriteOutcome};
+pub use crate::waiting::Waiting;

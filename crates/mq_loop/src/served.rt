@@ -7,6 +7,7 @@ ghost use Rattle.mq_route.specs.declared.event.HubEvent.TheVariants.{Bytes as By
 use crate::broker::{Broker, CommitFailure, SnapshotBroker, SnapshotNote};
 use crate::connection::{Connection, Flushed};
 use crate::socket::Socket;
+use crate::waiting::{Waiting, take_room};
 use mq_hub::Hub;
 use mq_route::{Conn, HubEvent, HubRefusal, HubReply};
 use mq_stream::ReadOutcome;
@@ -56,6 +57,8 @@ pub struct Served<B: Broker, S: Socket> {
     base: Snapshot<B>,
     broker: B,
     connections: Vec<Option<Connection<S>>>,
+    // Memory for bytes that wait, for the next connection whose output is collected.
+    spare: Option<Box<Waiting>>,
 }
 
 impl<B: Broker, S: Socket> Model for Served<B, S> {
@@ -94,6 +97,7 @@ impl<B: Broker + Drop, S: Socket + Drop> Served<B, S> {
             base: Snapshot::of(&broker),
             broker,
             connections: Vec::new(alloc),
+            spare: None,
         }
     }
 
@@ -301,7 +305,9 @@ impl<B: Broker + Drop, S: Socket + Drop> Served<B, S> {
         let Some(connection) = &mut self.connections[at] else {
             return Flushed::All;
         };
-        connection.flush()
+        let flushed = connection.flush();
+        connection.release(&mut self.spare);
+        flushed
     }
 
     /// Collects the pending output of a connection, unless output is kept for it, and keeps it to
@@ -328,8 +334,11 @@ impl<B: Broker + Drop, S: Socket + Drop> Served<B, S> {
         if connection.is_blocked() {
             return Ok(None);
         }
+        let Some(room) = take_room(self.alloc, &mut self.spare) else {
+            return Err(HubRefusal::Memory);
+        };
         let reply = self.broker.collect(name_at(place))?;
-        connection.keep(reply.output);
+        connection.keep(room, reply.output);
         Ok(Some(reply.alive))
     }
 

@@ -14,4 +14,5 @@ invariant_of-self-2 g c =
     let s = c.self.inside in
     let lines = s.connections.items in
     let is = line_here lines c.args.place c.index_mut.result.now (omega arith) c.index_mut.ensures.value in
-    flush_served (g.B.Broker.state s.base.value) (g.B.Broker.state s.broker) lines c.args.place c.in-Some.connection c.flush.new.self c.self.invariant (omega arith) (is ∙ c.in-Some.is) c.flush.ensures.went c.flush.ensures.rest
+    flush_served (g.B.Broker.state s.base.value) (g.B.Broker.state s.broker) lines c.args.place c.in-Some.connection c.release.new.self c.self.invariant (omega arith) (is ∙ c.in-Some.is)
+    (rw c.release.ensures c.flush-flushed.ensures.went) (rw c.release.ensures c.flush-flushed.ensures.rest)
