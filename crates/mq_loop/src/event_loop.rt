@@ -15,6 +15,7 @@ use crate::watched::Watched;
 use mq_decode::Limits;
 use mq_hub::Hub;
 use mq_route::{HubConfig, begun_laws};
+use mq_topic::ClientKey;
 use std::alloc::{AllocError, Global};
 use std::marker::Model;
 
@@ -157,6 +158,11 @@ impl<B: Broker + Drop, S: Socket + Drop, O: Observer + Drop> EventLoop<B, S, O> 
         ensures { result ≡ min (pending_at place self.now.watched.served) (2 ^ 64 - 1) }
     {
         self.watched.pending(place)
+    }
+
+    /// The client that is connected at a place, or was when the broker closed its connection.
+    pub fn client(&self, place: u32) -> Option<ClientKey> {
+        self.watched.notes().client(place)
     }
 
     /// The number of places.

@@ -20,7 +20,7 @@ type Clients = HashMap<ClientKey, u32>;
 #[derive(Drop)]
 pub(crate) struct Notes {
     alloc: Global,
-    seats: Vec<Option<Seat>>,
+    seats: Vec<Seat>,
     clients: Clients,
     /// Places that may have output at the broker.
     pub(crate) marked: PlaceSet,
@@ -69,27 +69,22 @@ fn remove_client(clients: &mut Clients, key: ClientKey, place: u32)
     }
 }
 
-// The seat at a place.
-fn seat_at(seats: &mut Vec<Option<Seat>>, place: u32) -> Option<&mut Seat> {
-    let at = place as usize;
-    if at >= seats.len() {
-        return None;
-    }
-    seats[at].as_mut()
-}
-
 // A client is connected at a place.
-fn seat_client(seats: &mut Vec<Option<Seat>>, place: u32, key: ClientKey) {
-    if let Some(seat) = seat_at(seats, place) {
-        seat.client = Some(key);
+fn seat_client(seats: &mut Vec<Seat>, place: u32, key: ClientKey) {
+    let at = place as usize;
+    if at < seats.len() {
+        seats[at] = seats[at].with_client(key);
     }
 }
 
 // The connection at a place is closed. Returns its client.
-fn close_seat(seats: &mut Vec<Option<Seat>>, place: u32) -> Option<ClientKey> {
-    let seat = seat_at(seats, place)?;
-    seat.is_closed = true;
-    seat.client
+fn close_seat(seats: &mut Vec<Seat>, place: u32) -> Option<ClientKey> {
+    let at = place as usize;
+    if at >= seats.len() {
+        return None;
+    }
+    seats[at] = seats[at].closed();
+    seats[at].client()
 }
 
 impl Notes {
@@ -122,33 +117,34 @@ impl Notes {
         self.vacant.last().copied()
     }
 
-    fn seat(&self, place: u32) -> Option<&Seat> {
+    fn seat(&self, place: u32) -> Seat {
         let at = place as usize;
-        if at >= self.seats.len() {
-            return None;
+        if at < self.seats.len() {
+            self.seats[at]
+        } else {
+            Seat::Vacant
         }
-        self.seats[at].as_ref()
     }
 
     /// Whether a place has a connection.
     pub(crate) fn is_open(&self, place: u32) -> bool {
-        self.seat(place).is_some()
+        self.seat(place).is_taken()
     }
 
     /// Whether a place has a connection that may be read from.
     pub(crate) fn may_read(&self, place: u32) -> bool {
-        match self.seat(place) {
-            Some(seat) => !seat.is_closed && !self.over.has(place),
-            None => false,
-        }
+        let seat = self.seat(place);
+        seat.is_taken() && !seat.is_closed() && !self.over.has(place)
     }
 
-    /// Whether a client is connected at a place.
+    /// The client that is connected at a place, or was when the broker closed its connection.
+    pub(crate) fn client(&self, place: u32) -> Option<ClientKey> {
+        self.seat(place).client()
+    }
+
+    /// Whether there is such a client at a place.
     pub(crate) fn has_client(&self, place: u32) -> bool {
-        match self.seat(place) {
-            Some(seat) => seat.client.is_some(),
-            None => false,
-        }
+        self.client(place).is_some()
     }
 
     /// Makes room for notes about this number of places in all.
@@ -176,7 +172,7 @@ impl Notes {
         let more = places.saturating_add(1);
         self.vacant.reserve(more.saturating_sub(self.vacant.len()))?;
         if self.seats.len() <= places {
-            self.seats.push(None)?;
+            self.seats.push(Seat::Vacant)?;
         }
         if self.marked.places() <= places {
             self.marked.add_place()?;
@@ -206,7 +202,7 @@ impl Notes {
     {
         let at = place as usize;
         if at < self.seats.len() {
-            self.seats[at] = Some(Seat::new());
+            self.seats[at] = Seat::Open;
         }
         if self.vacant.last().copied() == Some(place) {
             let _ = self.vacant.pop();
@@ -222,18 +218,10 @@ impl Notes {
     {
         let at = place as usize;
         if at < self.seats.len() {
-            self.seats[at] = None;
+            self.seats[at] = Seat::Vacant;
         }
         self.add_vacant(place);
         self.report(Report::Ended { place });
-    }
-
-    // Whether the broker closed the connection at a place.
-    fn is_closed(&self, place: u32) -> bool {
-        match self.seat(place) {
-            Some(seat) => seat.is_closed,
-            None => false,
-        }
     }
 
     /// Whether the connection at a place, whose socket takes no byte, must be ended: the broker
@@ -246,9 +234,9 @@ impl Notes {
         ensures failed { self.new.has_failed ≡ self.old.has_failed }
     {
         if waiting <= most_owed {
-            return self.is_closed(place);
+            return self.seat(place).is_closed();
         }
-        if self.is_closed(place) {
+        if self.seat(place).is_closed() {
             return true;
         }
         self.report(Report::Slow { place });
