@@ -1,4 +1,4 @@
-//! The clients and peers of the connections.
+//! The peers of the connections.
 
 use mq_topic::ClientKey;
 use mq_wire::Text;
@@ -14,10 +14,9 @@ pub(crate) struct Peer {
     pub(crate) client: Option<Text>,
 }
 
-/// The clients of the connections, by place. If there is a log, also their peers.
+/// The peers of the connections, by place, if there is a log.
 #[derive(Drop)]
 pub(crate) struct Peers {
-    keys: Vec<Option<ClientKey>>,
     // Empty if there is no log.
     peers: Vec<Option<Peer>>,
     has_log: bool,
@@ -26,7 +25,6 @@ pub(crate) struct Peers {
 impl Peers {
     pub(crate) fn new(alloc: Global, has_log: bool) -> Peers {
         Peers {
-            keys: Vec::new(alloc),
             peers: Vec::new(alloc),
             has_log,
         }
@@ -34,7 +32,6 @@ impl Peers {
 
     /// Makes room for this number of places in all.
     pub(crate) fn reserve(&mut self, places: usize) -> Result<(), AllocError> {
-        self.keys.reserve(places.saturating_sub(self.keys.len()))?;
         if self.has_log {
             self.peers.reserve(places.saturating_sub(self.peers.len()))?;
         }
@@ -44,12 +41,6 @@ impl Peers {
     /// Stores the address of the connection at a place.
     pub(crate) fn insert(&mut self, place: u32, address: SocketAddr) -> Result<(), AllocError> {
         let at = place as usize;
-        for _ in self.keys.len()..at.saturating_add(1) {
-            self.keys.push(None)?;
-        }
-        if at < self.keys.len() {
-            self.keys[at] = None;
-        }
         if !self.has_log {
             return Ok(());
         }
@@ -75,22 +66,9 @@ impl Peers {
         self.peers[at].as_ref()
     }
 
-    /// The session of the client that is connected at a place.
-    pub(crate) fn key(&self, place: u32) -> Option<ClientKey> {
-        let at = place as usize;
-        if at < self.keys.len() {
-            self.keys[at]
-        } else {
-            None
-        }
-    }
-
     /// Stores the client of the connection at a place. Its identifier is kept for the log only.
     pub(crate) fn set_client(&mut self, place: u32, key: ClientKey, client: Option<Text>) {
         let at = place as usize;
-        if at < self.keys.len() {
-            self.keys[at] = Some(key);
-        }
         if at >= self.peers.len() {
             return;
         }
@@ -102,9 +80,6 @@ impl Peers {
 
     pub(crate) fn remove(&mut self, place: u32) {
         let at = place as usize;
-        if at < self.keys.len() {
-            self.keys[at] = None;
-        }
         if at < self.peers.len() {
             self.peers[at] = None;
         }

@@ -1,7 +1,6 @@
 //! The sessions that the status page shows.
 
 use crate::counted::Counted;
-use crate::peers::Peers;
 use mio::net::TcpStream;
 use mq_hub::SessionCounts;
 use mq_loop::{Broker, EventLoop, NonBlocking};
@@ -77,11 +76,10 @@ fn add(list: &mut Vec<Ranked>, session: Ranked) -> Result<(), AllocError> {
 fn pending_bytes<B: Broker + Drop>(
     alloc: Global,
     connections: &EventLoop<B, NonBlocking<TcpStream>, Counted>,
-    peers: &Peers,
 ) -> Result<BTreeMap<ClientKey, usize>, AllocError> {
     let mut pending = BTreeMap::new(alloc);
     for place in 0..connections.places() {
-        if let Some(key) = peers.key(place) {
+        if let Some(key) = connections.client(place) {
             let _ = pending.insert(key, connections.pending(place))?;
         }
     }
@@ -92,9 +90,8 @@ fn pending_bytes<B: Broker + Drop>(
 fn first_sessions<B: Broker + Drop>(
     alloc: Global,
     connections: &EventLoop<B, NonBlocking<TcpStream>, Counted>,
-    peers: &Peers,
 ) -> Result<Vec<Ranked>, AllocError> {
-    let pending = pending_bytes(alloc, connections, peers)?;
+    let pending = pending_bytes(alloc, connections)?;
     let mut list = Vec::with_capacity(alloc, MAX_ROWS)?;
     for index in 0..connections.hub().counts().sessions {
         if let Some(counts) = connections.hub().session_counts(index) {
@@ -109,9 +106,8 @@ fn first_sessions<B: Broker + Drop>(
 pub(crate) fn rows_of<B: Broker + Drop>(
     alloc: Global,
     connections: &EventLoop<B, NonBlocking<TcpStream>, Counted>,
-    peers: &Peers,
 ) -> Result<Vec<SessionRow>, AllocError> {
-    let sessions = first_sessions(alloc, connections, peers)?;
+    let sessions = first_sessions(alloc, connections)?;
     let mut rows = Vec::with_capacity(alloc, sessions.len())?;
     for session in sessions.as_slice() {
         if let Some(client) = connections.hub().session_client(session.index) {

@@ -45,7 +45,7 @@ impl<B: Broker + Drop, L: Write + Drop> Server<B, L> {
         let gauges = self.gauges();
         self.connections.observer_mut().metrics.set_gauges(gauges);
         let rows = match reply.status {
-            Status::Ok(Resource::Page) => rows_of(alloc, &self.connections, &self.peers)?,
+            Status::Ok(Resource::Page) => rows_of(alloc, &self.connections)?,
             _ => Vec::new(alloc),
         };
         let mut response = Vec::new(alloc);
