@@ -3,6 +3,7 @@
 ghost use Rattle.std.specs.Prelude.{◌≡◌, ◌<◌, [], IfSome};
 ghost use Rattle.mq_hub.specs.Prelude.{knows, new_hub, event_refusal};
 
+use mq_decode::Decoder;
 use mq_route::{Conn, HubConfig, HubEvent, HubRefusal};
 use mq_tables::{ConnectionLimits, Tables};
 use mq_topic::{FilterStore, TrieStore};
@@ -17,6 +18,8 @@ pub struct HubOver<S: FilterStore> {
     pub(crate) clock: u64,
     pub(crate) next_key: u64,
     pub(crate) tables: Tables<S>,
+    // The memory of a decoder, for the next piece.
+    pub(crate) spare: Option<Box<Decoder>>,
 }
 
 /// A broker that stores its subscriptions in a trie.
@@ -70,6 +73,7 @@ impl<S: FilterStore> HubOver<S> {
             clock: 0,
             next_key: 0,
             tables,
+            spare: None,
         }
     }
 

@@ -65,6 +65,8 @@ impl<S: FilterStore> HubOver<S> {
         }
         let mut decoder = self.take_decoder(conn);
         let used = self.on_piece(conn, &mut decoder, piece, most_acts, &mut log);
-        Ok((log.into_reply(self.is_open(conn)), used))
+        let reply = log.into_reply(self.is_open(conn));
+        self.keep_memory(decoder);
+        Ok((reply, used))
     }
 }

@@ -6,6 +6,7 @@ pub use Rattle.std.specs.Map.{keys_of, lookup, remove_entry}
 pub use Rattle.std.specs.Option.{option_copied, option_map, option_to_list}
 pub use Rattle.std.specs.Str.{bytes_eq}
 pub use Rattle.indexmap.specs.IndexMap.{values}
+pub use Rattle.mq_decode.specs.Grammar.{IsFront, Pending, ReadsWithin}
 pub use Rattle.mq_end.specs.Both.{has_identifier}
 pub use Rattle.mq_end.specs.End.{is_up, is_live}
 pub use Rattle.mq_end.specs.KeepAlive.{is_late}

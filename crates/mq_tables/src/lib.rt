@@ -19,6 +19,7 @@ mod subscriptions;
 mod tables;
 
 pub use crate::connections::connection::Connection;
+pub use crate::connections::decoder::LazyDecoder;
 pub use crate::connections::table::{ConnectionLimits, Connections};
 pub use crate::copies::{copy, copy_by, is_hidden_name, lesser, will_message};
 pub use crate::expiry::has_passed;

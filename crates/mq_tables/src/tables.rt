@@ -7,11 +7,11 @@ ghost use Rattle.std.specs.Prelude.{◌≡◌, ◌≤◌, ℕ, List, Some, None,
 ghost use Rattle.mq_tables.specs.Prelude.{without_client, held_on, is_open, key_of, key_on, knows, stage_of, waiting_on, with_connection, without_connection, is_clean, up_on, ends_on, ends_with, IsDecoding, touched_at, holds, left_with, CollectsAt, parted, marked_at, sessions_of, session_at, with_server, without_key};
 
 use crate::connections::connection::BoxedConnection;
+use crate::connections::decoder::LazyDecoder;
 use crate::connections::table::{ConnectionLimits, Connections};
 use crate::retained::Retained;
 use crate::sessions::table::Sessions;
 use bytes::Bytes;
-use mq_decode::Decoder;
 use mq_end::ByteQueue;
 use mq_route::{Conn, ConnectionState};
 use mq_topic::{ClientKey, FilterStore};
@@ -168,7 +168,7 @@ impl<S: FilterStore> Tables<S> {
     }
 
     /// Exchanges the decoder of a connection for another, which must hold no whole packet.
-    pub fn swap_decoder(&mut self, conn: Conn, decoder: &mut Decoder)
+    pub fn swap_decoder(&mut self, conn: Conn, decoder: &mut LazyDecoder)
         requires known { knows conn self.old.connections.connections ≡ true }
         requires reading { IsDecoding self.old.connections.limits.packets decoder.old }
         ensures connections { self.new.connections.connections ≡ with_connection (holds decoder.old.held) conn self.old.connections.connections }

@@ -4,8 +4,8 @@ ghost use Rattle.std.specs.Prelude.{◌≡◌, None, true, IfSome};
 ghost use Rattle.mq_hub.specs.Prelude.{is_up, end_of, held_on, key_on, knows, stage_of, IsDecoding, with_touched, with_held};
 
 use crate::hub::HubOver;
-use mq_decode::Decoder;
 use mq_route::Conn;
+use mq_tables::LazyDecoder;
 use mq_topic::{ClientKey, FilterStore};
 
 /// The result of decoding at the front of the bytes of a connection.
@@ -30,7 +30,7 @@ impl<S: FilterStore> HubOver<S> {
         self.tables.touched(conn, place, self.clock)
     }
 
-    pub(crate) fn swap_decoder(&mut self, conn: Conn, decoder: &mut Decoder)
+    pub(crate) fn swap_decoder(&mut self, conn: Conn, decoder: &mut LazyDecoder)
         requires known { knows conn self.old.connections ≡ true }
         requires reading { IsDecoding self.old.config.limits decoder.old }
         ensures hub { self.new ≡ with_held conn decoder.old.held self.old }
@@ -38,6 +38,21 @@ impl<S: FilterStore> HubOver<S> {
         ensures reading { IsDecoding self.old.config.limits decoder.new }
     {
         self.tables.swap_decoder(conn, decoder);
+    }
+
+    /// Lends the memory of the last decoder to another one, if it has none.
+    pub(crate) fn lend_memory(&mut self, decoder: &mut LazyDecoder)
+        ensures hub { self.new ≡ self.old }
+        ensures decoder { decoder.new ≡ decoder.old }
+    {
+        decoder.take_memory(self.alloc, &mut self.spare);
+    }
+
+    /// Keeps the memory of a decoder for the next one.
+    pub(crate) fn keep_memory(&mut self, decoder: LazyDecoder)
+        ensures { self.new ≡ self.old }
+    {
+        decoder.give_memory(&mut self.spare);
     }
 
     pub(crate) fn key(&self, conn: Conn) -> Option<ClientKey>

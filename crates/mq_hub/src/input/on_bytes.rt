@@ -6,8 +6,8 @@ ghost use Rattle.mq_hub.specs.Prelude.{Act, held_on, is_open, knows, stage_of, H
 use crate::acts::ActLog;
 use crate::hub::HubOver;
 use crate::input::decoder::Next;
-use mq_decode::Decoder;
 use mq_route::{Conn, HubEvent, HubRefusal, HubReply};
+use mq_tables::LazyDecoder;
 use mq_topic::FilterStore;
 
 impl<S: FilterStore> HubOver<S> {
@@ -18,7 +18,7 @@ impl<S: FilterStore> HubOver<S> {
         &mut self,
         conn: Conn,
         place: usize,
-        decoder: &mut Decoder,
+        decoder: &mut LazyDecoder,
         bytes: &[u8],
         log: &mut ActLog,
     ) -> Next
@@ -30,7 +30,7 @@ impl<S: FilterStore> HubOver<S> {
         ensures config { goes_on result ≡ true → self.new.config ≡ self.old.config }
         ensures room { goes_on result ≡ true → is_open (stage_of conn self.new.connections) ≡ true → 3 ≤ log.new.room }
     {
-        match decoder.next_packet(bytes) {
+        match decoder.next_packet(self.alloc, bytes) {
             Ok(Some((packet, used))) => {
                 self.on_packet(conn, place, packet, log);
                 Next::Packet(used)
@@ -44,7 +44,7 @@ impl<S: FilterStore> HubOver<S> {
     }
 
     // Puts back the decoder of a connection, unless the connection is closed. It must hold nothing.
-    fn put_back(&mut self, conn: Conn, place: usize, decoder: &mut Decoder)
+    fn put_back(&mut self, conn: Conn, place: usize, decoder: &mut LazyDecoder)
         requires reading { IsDecoding self.old.config.limits decoder.old }
         requires held { decoder.old.held ≡ [] }
         ensures { (most : ℕ) (said : List Act) → RefinesBytes self.old.config.limits conn most [] self.old said self.new said }
@@ -60,7 +60,7 @@ impl<S: FilterStore> HubOver<S> {
     pub(crate) fn on_piece(
         &mut self,
         conn: Conn,
-        decoder: &mut Decoder,
+        decoder: &mut LazyDecoder,
         piece: &[u8],
         most_acts: usize,
         log: &mut ActLog,
@@ -94,14 +94,15 @@ impl<S: FilterStore> HubOver<S> {
     }
 
     /// Takes the decoder out of a connection and leaves an empty one in its place.
-    pub(crate) fn take_decoder(&mut self, conn: Conn) -> Decoder
+    pub(crate) fn take_decoder(&mut self, conn: Conn) -> LazyDecoder
         requires { knows conn self.old.connections ≡ true }
         ensures hub { self.new ≡ with_held conn [] self.old }
         ensures held { result.held ≡ held_on conn self.old.connections }
         ensures reading { IsDecoding self.old.config.limits result }
     {
-        let mut decoder = Decoder::new(self.alloc, self.config.limits);
+        let mut decoder = LazyDecoder::new(self.config.limits);
         self.swap_decoder(conn, &mut decoder);
+        self.lend_memory(&mut decoder);
         decoder
     }
 

@@ -5,9 +5,10 @@ ghost use Rattle.mq_hub.specs.Prelude.{key_on, knows, stage_of, with_connection,
 
 use crate::hub::HubOver;
 use crate::snapshot::limits::is_will_within;
-use mq_decode::{DecodeError, Decoder};
+use mq_decode::DecodeError;
 use mq_route::{Conn, ConnectionState, ConnectionTerms};
 use mq_snapshot::{SavedConnection, SnapshotFault, read_connection, read_eight};
+use mq_tables::LazyDecoder;
 use mq_topic::{ClientKey, FilterStore};
 
 impl<S: FilterStore> HubOver<S> {
@@ -54,8 +55,8 @@ impl<S: FilterStore> HubOver<S> {
         requires { knows conn self.old.connections ≡ true }
         ensures { OnOk result (self.new ≡ with_held conn held.now self.old) }
     {
-        let mut decoder = Decoder::new(self.alloc, self.config.limits);
-        match decoder.next_packet(held) {
+        let mut decoder = LazyDecoder::new(self.config.limits);
+        match decoder.next_packet(self.alloc, held) {
             Ok(None) => {
                 self.swap_decoder(conn, &mut decoder);
                 Ok(())

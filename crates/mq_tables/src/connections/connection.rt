@@ -3,8 +3,9 @@
 ghost use Rattle.std.specs.Prelude.{◌≡◌, ◌≤◌, ℕ, [], Option, None, false, IfOk, IsFalse, OnOk, OnErr};
 ghost use Rattle.mq_tables.specs.Prelude.{touched, key_on, has_passed, is_late, is_late_on, connection_of, IsReading, IsTimely};
 
+use crate::connections::decoder::LazyDecoder;
 use bytes::Bytes;
-use mq_decode::{Decoder, Limits};
+use mq_decode::Limits;
 use mq_end::ByteQueue;
 use mq_route::{Conn, ConnectionState, ConnectionTerms};
 use mq_topic::ClientKey;
@@ -22,7 +23,7 @@ pub struct Connection {
     /// The time at which it was opened, in milliseconds.
     pub since: u64,
     /// Decodes incoming bytes, and holds the incomplete packet.
-    pub decoder: Decoder,
+    pub decoder: LazyDecoder,
     /// Pending output while no client is connected. A connected client's output is in its session's
     /// end.
     pub waiting: ByteQueue,
@@ -77,7 +78,7 @@ impl BoxedConnection {
             conn,
             stage: ConnectionState::AwaitingConnect,
             since,
-            decoder: Decoder::new(alloc, limits),
+            decoder: LazyDecoder::new(limits),
             waiting: ByteQueue::new(alloc),
         };
         let connection = Box::new(alloc, connection)?;
@@ -156,12 +157,12 @@ impl BoxedConnection {
         }
     }
 
-    pub(crate) fn swap_decoder(&mut self, decoder: &mut Decoder)
+    pub(crate) fn swap_decoder(&mut self, decoder: &mut LazyDecoder)
         ensures own { self.new ≡ record self.old { decoder = decoder.old } }
         ensures other { decoder.new ≡ self.old.decoder }
     {
         let connection = &mut *self.connection;
-        mem::swap(&mut connection.decoder, decoder);
+        connection.decoder.swap(decoder);
     }
 
     /// Takes the pending output without copying it.

@@ -6,9 +6,10 @@ ghost use Rattle.std.specs.HashMap.{spare};
 
 use crate::alarms::Alarms;
 use crate::connections::connection::{BoxedConnection, Connection};
+use crate::connections::decoder::LazyDecoder;
 use bytes::Bytes;
 use indexmap::IndexMap;
-use mq_decode::{Decoder, Limits};
+use mq_decode::Limits;
 use mq_end::ByteQueue;
 use mq_route::{Conn, ConnectionState, ConnectionTerms};
 use mq_snapshot::{put_connection, put_eight};
@@ -432,7 +433,7 @@ impl Connections {
     }
 
     /// Exchanges the decoder of a connection for another, which must hold no whole packet.
-    pub fn swap_decoder(&mut self, conn: Conn, decoder: &mut Decoder)
+    pub fn swap_decoder(&mut self, conn: Conn, decoder: &mut LazyDecoder)
         requires known { knows conn self.old.connections ≡ true }
         requires reading { IsDecoding self.old.limits.packets decoder.old }
         ensures connections { self.new.connections ≡ with_connection (λ x. record x { held = decoder.old.held }) conn self.old.connections }
