@@ -61,6 +61,12 @@ pub alarm_awaited : (within : Option ℕ) (a : AlarmTable) (k : Conn) (until sin
     → IsTimely within until since s → IsAwaited within a k since s
 alarm_awaited within a k until since s rings timely = λ now quiet. timely now (rings now quiet)
 
+-- its alarm was set when it began to wait for its CONNECT
+pub waiting_awaited : (within : Option ℕ) (a : AlarmTable) (c w : Connection) → w.conn ≡ c.conn → w.since ≡ c.since → c.stage ≡ AwaitingConnect
+    → IsAwaited within a c.conn c.since c.stage → IsAwaited within a w.conn w.since AwaitingConnect
+waiting_awaited within a c w conn since stage awaited = λ now quiet.
+    ap₂ (is_late_on within now) since (sym stage) ∙ awaited now (subst (λ (k : Conn). IsQuiet a k now) conn quiet)
+
 -- its last packet is not earlier than before
 pub heard_awaited : (within : Option ℕ) (a : AlarmTable) (c w : Connection) (now : ℕ) → w.conn ≡ c.conn → w.since ≡ c.since → w.stage ≡ touched now c.stage
     → ((n : ℕ) → is_late_on within n c.since c.stage ≡ false → is_late_on within n c.since (touched now c.stage) ≡ false)

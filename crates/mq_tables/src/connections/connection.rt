@@ -1,6 +1,6 @@
 //! One connection (4.2).
 
-ghost use Rattle.std.specs.Prelude.{◌≡◌, ◌≤◌, ℕ, [], Option, None, false, IfOk, IsFalse, OnOk, OnErr};
+ghost use Rattle.std.specs.Prelude.{◌≡◌, ◌≤◌, ℕ, [], Option, None, false, IfOk, IsFalse, IsTrue, OnOk, OnErr};
 ghost use Rattle.mq_tables.specs.Prelude.{touched, key_on, has_passed, is_late, is_late_on, connection_of, IsReading, IsTimely};
 
 use crate::connections::decoder::LazyDecoder;
@@ -112,6 +112,21 @@ impl BoxedConnection {
             ),
             ConnectionState::AwaitingConnect => last_without_connect(within, self.connection.since),
             ConnectionState::Closed => u64::MAX,
+        }
+    }
+
+    /// Whether the connection is not late before the time within which it had to send CONNECT ends
+    /// (3.1, 3.1.2.10).
+    pub(crate) fn is_in_time_at_first(&self, within: Option<u64>) -> bool
+        ensures { IsTrue result → (now : ℕ) → has_passed within self.now.since now ≡ false
+            → is_late_on within now self.now.since self.now.stage ≡ false }
+    {
+        let Some(time) = within else {
+            return false;
+        };
+        match self.connection.since.checked_add(time) {
+            Some(first) => first <= self.last_in_time(within),
+            None => false,
         }
     }
 

@@ -113,6 +113,18 @@ fn set_connect_alarm(within: Option<u64>, boxed: &BoxedConnection, alarms: &mut 
     }
 }
 
+// Sets the alarm of a connection that is connected now, unless the one for its CONNECT rings as
+// early.
+fn set_connected_alarm(within: Option<u64>, boxed: &BoxedConnection, alarms: &mut Alarms)
+    requires { IsAwaited within alarms.old boxed.now.conn boxed.now.since ConnectionState.AwaitingConnect }
+    ensures keeps { RingsWith alarms.old alarms.new }
+    ensures awaited { IsAwaited within alarms.new boxed.now.conn boxed.now.since boxed.now.stage }
+{
+    if !boxed.is_in_time_at_first(within) {
+        alarms.set(boxed.connection().conn, boxed.last_in_time(within));
+    }
+}
+
 // Sets one alarm for each connection and drops all others.
 fn reset_alarms(within: Option<u64>, by_conn: &ByConn, alarms: &mut Alarms)
     ensures awaited { AreAwaited within alarms.new by_conn.now.entries }
@@ -402,8 +414,7 @@ impl Connections {
             return;
         };
         boxed.connect_end(key, terms, now);
-        self.alarms
-            .set(conn, boxed.last_in_time(self.limits.connect_within));
+        set_connected_alarm(self.limits.connect_within, boxed, &mut self.alarms);
         add_connected(&mut self.ups, key, conn);
     }
 
